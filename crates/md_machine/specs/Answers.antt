@@ -1,5 +1,5 @@
 -- What a query answers on a table, and how its answers on two tables differ.
-use Rattle.std.specs.Prelude.{ℕ, Bool, true, false, List, ◌&&◌, Option, None, Some, filter, map, codes}
+use Rattle.std.specs.Prelude.{ℕ, Bool, true, false, List, [], ◌&&◌, Option, None, Some, filter, map, codes}
 use Rattle.std.specs.List.{list_any}
 use Rattle.md_value.specs.Path.{is_inside}
 use Rattle.md_value.specs.Attrs.{has_text}
@@ -8,6 +8,10 @@ use Rattle.md_world.specs.Differences.{Difference, difference}
 use Rattle.md_world.specs.declared.Row.{Row}
 use Rattle.md_world.specs.declared.Notice.{Notice}
 use Rattle.md_machine.specs.declared.Spec.{Spec}
+
+-- what asks for the files of this name, anywhere, each update at once
+abbrev pub name_is : List ℕ → Spec
+name_is text = record { scope = []; name = Some text; batch = record { first = None; progress = None; update = None; ms = None } }
 
 -- the attribute that has a file's name
 abbrev pub file_name : List ℕ
