@@ -1,6 +1,5 @@
 -- What a query answers on a table, and how its answers on two tables differ.
-use Rattle.std.specs.Prelude.{ℕ, Bool, true, false, List, [], ◌&&◌, Option, None, Some, filter, map, codes}
-use Rattle.std.specs.List.{list_any}
+use Rattle.std.specs.Prelude.{ℕ, Bool, true, List, [], ◌&&◌, Option, None, Some, filter, map, codes}
 use Rattle.md_value.specs.Path.{is_inside}
 use Rattle.md_value.specs.Attrs.{has_text}
 use Rattle.md_world.specs.Tables.{shown}

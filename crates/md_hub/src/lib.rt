@@ -1,0 +1,14 @@
+//! The server over plain tables: tickets, versions and live queries, one event at a time.
+#![tactic(auto)]
+
+mod desk;
+mod edits;
+mod hub;
+mod queries;
+mod query;
+mod runs;
+mod tables;
+mod twin;
+
+pub use hub::Hub;
+pub use runs::run;
