@@ -1,0 +1,4 @@
+pub mod Plain
+pub mod Joined
+pub mod Replied
+pub mod Pushed
