@@ -5,6 +5,8 @@ mod characters;
 mod key;
 mod pattern;
 mod scan;
+#[cfg(test)]
+mod tests;
 
 pub use key::Key;
 pub use pattern::{Pattern, wild_decides};
