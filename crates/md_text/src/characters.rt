@@ -65,13 +65,12 @@ fn drop_marks(characters: &mut Vec<char>)
     );
 }
 
-// The canonical decomposition, folded as definition D145 of the Unicode Standard has it.
-fn with_marks(alloc: Global, text: &str, fold: bool) -> Result<Vec<char>, AllocError>
+// The canonical decomposition; folded, the key of definition D145 of the Unicode Standard.
+fn with_marks(alloc: Global, characters: &[char], fold: bool) -> Result<Vec<char>, AllocError>
     ensures { IfOk result (λ made. made.items
-        ≡ (if fold then canonical_key (chars text.now) else nfd (chars text.now))) }
+        ≡ (if fold then canonical_key characters.now else nfd characters.now)) }
 {
-    let characters = collected(alloc, text)?;
-    let first = decomposed(alloc, &characters)?;
+    let first = decomposed(alloc, characters)?;
     if !fold {
         return Ok(first);
     }
@@ -82,11 +81,12 @@ fn with_marks(alloc: Global, text: &str, fold: bool) -> Result<Vec<char>, AllocE
 fn unicode_key(alloc: Global, text: &str, fold: bool, marks: bool) -> Result<Vec<char>, AllocError>
     ensures { IfOk result (λ made. made.items ≡ key fold marks (chars text.now)) }
 {
-    let mut characters = with_marks(alloc, text, fold)?;
+    let characters = collected(alloc, text)?;
+    let mut made = with_marks(alloc, &characters, fold)?;
     if marks {
-        drop_marks(&mut characters);
+        drop_marks(&mut made);
     }
-    Ok(characters)
+    Ok(made)
 }
 
 // An ASCII text is its own decomposition, folds to lower case and has no marks.
