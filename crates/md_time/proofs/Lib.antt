@@ -1,0 +1,3 @@
+pub mod HeldText
+pub mod Numbers
+pub mod Pictures

@@ -1,0 +1,2 @@
+pub mod HeldText
+pub mod IsoTexts
