@@ -1,12 +1,14 @@
 -- An ISO text fits 25 bytes, and is held in them.
-use Rattle.std.proofs.Common.{◌≡◌, ℕ, suc, ◌≤◌, Bool, true, false, ◌&&◌, ◌||◌, List, [], ◌∷◌, ◌++◌, length, take, drop, refl, sym, ap, ◌⊎◌, inl, inr, IsUtf8, arith, codes}
+use Rattle.std.proofs.Common.{◌≡◌, ℕ, suc, ◌≤◌, Bool, true, false, ◌&&◌, ◌||◌, List, [], ◌∷◌, ◌++◌, length, take, drop, refl, sym, ap, ◌∙◌, ◌⊎◌, inl, inr, IsUtf8, arith, codes}
 use Rattle.std.proofs.Math.ListN.{replicate}
 use Rattle.std.proofs.Math.Seq.{take-append_seam}
 use Rattle.std.proofs.lemmas.List.{drop-replicate, length-drop}
+use Rattle.std.proofs.lemmas.Bool.{cases_order}
 use Rattle.std.specs.Int.{is_in_range}
 use Rattle.std.specs.List.{slice_range}
-use Rattle.md_time.specs.IsoTexts.{looks_like, is_date_text, is_time_text, is_plain_distance, is_colon_distance, is_zone_text, is_full_text, is_iso, field}
+use Rattle.md_time.specs.IsoTexts.{looks_like, is_date_text, is_time_text, is_plain_distance, is_colon_distance, is_zone_text, is_full_text, is_iso, is_calendar_date, field}
 use Rattle.md_time.specs.HeldText.{IsHeld}
+use Rattle.md_time.proofs.Pictures.{short_is_not_full}
 
 pub and_left : (a b : Bool) → (a && b) ≡ true → a ≡ true
 and_left true b h = refl
@@ -43,6 +45,26 @@ length-zone t h = elim (or_cases (looks_like (codes "Z") t || is_plain_distance 
   ]
   | inr colon ↦ let e = length-colon t colon in omega arith
 ]
+
+pub date-calendar : (t : List ℕ) → is_date_text t ≡ true → is_calendar_date (field 0 4 t) (field 5 7 t) (field 8 10 t) ≡ true
+date-calendar t h = and_right (looks_like (codes "0000-00-00") t) _ h
+
+-- what makes a text one with a date, a time and a zone
+pub full-date : (t : List ℕ) → is_full_text t ≡ true → is_date_text (take 10 t) ≡ true
+full-date t h = and_left _ (is_time_text (slice_range t 10 19)) (and_left (is_date_text (take 10 t) && is_time_text (slice_range t 10 19)) (is_zone_text (drop 19 t)) h)
+
+pub full-zone : (t : List ℕ) → is_full_text t ≡ true → is_zone_text (drop 19 t) ≡ true
+full-zone t h = and_right (is_date_text (take 10 t) && is_time_text (slice_range t 10 19)) (is_zone_text (drop 19 t)) h
+
+pub full-long : (t : List ℕ) → is_full_text t ≡ true → 19 ≤ length t
+full-long t h = elim (cases_order 19 (length t)) [
+  | inl same ↦ omega arith
+  | inr (inl lt) ↦ omega arith
+  | inr (inr gt) ↦ absurd (let e : true ≡ false = sym h ∙ short_is_not_full t (omega arith) in cc)
+]
+
+pub iso-full : (t : List ℕ) → is_iso t ≡ true → is_date_text t ≡ false → is_full_text t ≡ true
+iso-full t h other = elim (or_cases (is_date_text t) (is_full_text t) h) [ inl date ↦ absurd (let e : true ≡ false = sym date ∙ other in cc) | inr full ↦ full ]
 
 pub length-iso : (t : List ℕ) → is_iso t ≡ true → length t ≤ 25
 length-iso t h = elim (or_cases (is_date_text t) (is_full_text t) h) [

@@ -14,7 +14,7 @@ fn stands_for(pictured: u8, byte: u8) -> bool
     }
 }
 
-fn looks_like(picture: &[u8], text: &[u8]) -> bool
+pub(crate) fn looks_like(picture: &[u8], text: &[u8]) -> bool
     ensures value { result ≡ looks_like picture.now text.now }
     ensures length { IsTrue result → length picture.now ≡ length text.now }
 {
@@ -27,7 +27,7 @@ fn looks_like(picture: &[u8], text: &[u8]) -> bool
     }
 }
 
-fn number(digits: &[u8]) -> u32
+pub(crate) fn number(digits: &[u8]) -> u32
     requires { length digits.now ≤ 4 }
     ensures value { result ≡ number_after 0 digits.now }
     ensures bound { result < 2 ^ 20 }
@@ -48,7 +48,7 @@ fn is_calendar_date(year: u32, month: u32, day: u32) -> bool
         && day <= days_in_month(year as i16, month as u8) as u32
 }
 
-fn is_date_text(text: &[u8]) -> bool
+pub(crate) fn is_date_text(text: &[u8]) -> bool
     ensures { result ≡ is_date_text text.now }
 {
     looks_like(b"0000-00-00", text)
