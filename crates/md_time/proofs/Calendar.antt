@@ -80,7 +80,9 @@ month_of_is day date h same =
 pub day_of_month_is : (day : ℤ) (date : Date) → IsDay day → epoch_day date ≡ day → day_of_month day ≡ date.day
 day_of_month_is day date h same =
     let first = days_from_civil-day date.year date.month date.day 1 date.day_in.0 (omega arith) in
-    let last : unsigned_abs (day -ℤ days_from_civil date.year date.month 1) + 1 ≡ date.day = omega (arith, signed_arith, date.day_in.0) in
+    let gap : day -ℤ days_from_civil date.year date.month 1 ≡ pos (date.day - 1) = omega (arith, signed_arith, date.day_in.0) in
+    let size : unsigned_abs (day -ℤ days_from_civil date.year date.month 1) ≡ date.day - 1 = ap unsigned_abs gap in
+    let last : unsigned_abs (day -ℤ days_from_civil date.year date.month 1) + 1 ≡ date.day = omega (arith, date.day_in.0) in
     ap (λ y. unsigned_abs (day -ℤ days_from_civil y (month_of day) 1) + 1) (year_of_is day date h same)
     ∙ ap (λ m. unsigned_abs (day -ℤ days_from_civil date.year m 1) + 1) (month_of_is day date h same)
     ∙ last

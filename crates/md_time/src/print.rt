@@ -77,7 +77,7 @@ pub fn print_moment(alloc: Global, moment: i64) -> Result<String, AllocError>
 {
     let mut text = String::new(alloc);
     push_day(&mut text, day_of(moment))?;
-    text.push(' ')?;
+    text.push_str(" ")?;
     push_time(&mut text, second_of_day(moment))?;
     text.push_str(" +0000")?;
     Ok(text)

@@ -19,8 +19,8 @@ returns c =
         ∙ ap (λ xs. xs ++ date_text (year_of c.day_of.result) (month_of c.day_of.result) (day_of_month c.day_of.result)) c.new-text.ensures.bytes
         ∙ ap (λ d. date_text (year_of d) (month_of d) (day_of_month d)) day in
     let second : c.second_of_day.result ≡ second_of_day c.args.moment = simp to_z-of_z at c.second_of_day.ensures in
-    let time : string_bytes c.push_time.new.text ≡ string_bytes c.push.new.self ++ time_text (second_of_day c.args.moment) =
-        c.in_ok-push_time.ensures ∙ ap (λ s. string_bytes c.push.new.self ++ time_text s) second in
+    let time : string_bytes c.push_time.new.text ≡ string_bytes c.push_str.new.self ++ time_text (second_of_day c.args.moment) =
+        c.in_ok-push_time.ensures ∙ ap (λ s. string_bytes c.push_str.new.self ++ time_text s) second in
     four_pieces (date_text (year_of (day_of c.args.moment)) (month_of (day_of c.args.moment)) (day_of_month (day_of c.args.moment)))
     (32 ∷ []) (time_text (second_of_day c.args.moment)) (codes " +0000") _ _ _ _
-    first c.in_ok-push.ensures.bytes time c.in_ok-push_str.ensures.bytes
+    first c.in_ok-push_str.ensures.bytes time c.in_ok-push_str-2.ensures.bytes
