@@ -14,3 +14,6 @@ pub use iso_moment::{NotDate, read_moment};
 pub use iso_text::IsoText;
 pub use print::print_moment;
 pub use range::{HIGH, LOW};
+
+#[cfg(test)]
+mod tests;
