@@ -1,0 +1,6 @@
+pub mod Calendar
+pub mod HeldText
+pub mod IsoMoments
+pub mod Numbers
+pub mod Pictures
+pub mod Printing

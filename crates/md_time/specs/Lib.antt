@@ -1,0 +1,4 @@
+pub mod HeldText
+pub mod IsoTexts
+pub mod Moments
+pub mod Printed
