@@ -1,0 +1,22 @@
+//! The outside of the server: what it reads and writes, as traits with a content, where an object tells it,
+//! and a count of faults that never falls. A call that answers [`Failed`] raises the count, and no other does.
+#![tactic(auto)]
+
+mod adapters;
+mod fault;
+mod memory;
+mod put;
+mod sink;
+mod source;
+mod sure;
+
+pub use adapters::{Reading, Writing};
+pub use fault::Failed;
+pub use memory::{MemorySink, MemorySource};
+pub use put::{PutEnd, put_all, put_texts};
+pub use sink::Sink;
+pub use source::{ReadEnd, Source, read_all};
+pub use sure::{SureSink, SureSource};
+
+#[cfg(test)]
+mod tests;
