@@ -15,7 +15,7 @@ pub use fault::Failed;
 pub use memory::{MemorySink, MemorySource};
 pub use put::{PutEnd, put_all, put_texts};
 pub use sink::Sink;
-pub use source::{ReadEnd, Source, read_all};
+pub use source::{Source, SourceEnd, read_all};
 pub use sure::{SureSink, SureSource};
 
 #[cfg(test)]

@@ -24,7 +24,7 @@ pub trait Source {
 
 /// Why a source was not read.
 #[derive(Clone, Copy, Debug, PartialEq, Eq)]
-pub enum ReadEnd {
+pub enum SourceEnd {
     /// A call of the source failed.
     Failed,
     /// There was no room for the bytes.
@@ -35,7 +35,7 @@ pub enum ReadEnd {
 const CHUNK: usize = 4096;
 
 /// Reads the source to its end, or to one byte past the most that are wanted.
-pub fn read_all<S: Source>(alloc: Global, source: &mut S, most: usize) -> Result<Vec<u8>, ReadEnd>
+pub fn read_all<S: Source>(alloc: Global, source: &mut S, most: usize) -> Result<Vec<u8>, SourceEnd>
     requires { most < 2 ^ 62 }
     // The bytes are those that were taken, and the source is at its end if they are not more than wanted.
     ensures taken { IfOk result (λ bytes. Consumes (S.left source.old) (S.left source.new) bytes.items) }
@@ -44,8 +44,8 @@ pub fn read_all<S: Source>(alloc: Global, source: &mut S, most: usize) -> Result
     ensures bytes { IfOk result (λ bytes. IfSome (S.left source.old) (λ left. bytes.items ≡ take (most + 1) left)) }
 
     ensures later { S.faults source.old ≤ S.faults source.new }
-    ensures failed { IsErrOf result ReadEnd.Failed → Rose (S.faults source.old) (S.faults source.new) }
-    ensures memory { IsErrOf result ReadEnd.Memory → S.faults source.new ≡ S.faults source.old }
+    ensures failed { IsErrOf result SourceEnd.Failed → Rose (S.faults source.old) (S.faults source.new) }
+    ensures memory { IsErrOf result SourceEnd.Memory → S.faults source.new ≡ S.faults source.old }
     ensures kept { OnOk result (S.faults source.new ≡ S.faults source.old) }
 {
     let mut bytes = Vec::new(alloc);
@@ -56,9 +56,9 @@ pub fn read_all<S: Source>(alloc: Global, source: &mut S, most: usize) -> Result
             Ok(0) => break,
             Ok(count) => match bytes.extend_from_slice(&chunk[..count]) {
                 Ok(()) => {}
-                Err(_) => return Err(ReadEnd::Memory),
+                Err(_) => return Err(SourceEnd::Memory),
             },
-            Err(_) => return Err(ReadEnd::Failed),
+            Err(_) => return Err(SourceEnd::Failed),
         }
     }
     Ok(bytes)

@@ -1,6 +1,6 @@
 use crate::{
-    Failed, MemorySink, MemorySource, PutEnd, ReadEnd, Reading, Sink, Source, SureSink, SureSource,
-    Writing, put_all, put_texts, read_all,
+    Failed, MemorySink, MemorySource, PutEnd, Reading, Sink, Source, SourceEnd, SureSink,
+    SureSource, Writing, put_all, put_texts, read_all,
 };
 use std::alloc::Global;
 use std::io::{self, Cursor, ErrorKind, Read};
@@ -24,11 +24,11 @@ impl Read for Broken {
 }
 
 // The text that is read, or the end's name.
-fn text_of(alloc: Global, read: Result<Vec<u8>, ReadEnd>) -> Result<Vec<u8>, Fail> {
+fn text_of(alloc: Global, read: Result<Vec<u8>, SourceEnd>) -> Result<Vec<u8>, Fail> {
     match read {
         Ok(bytes) => Ok(bytes),
-        Err(ReadEnd::Failed) => Ok(Vec::from_slice(alloc, b"Failed")?),
-        Err(ReadEnd::Memory) => Ok(Vec::from_slice(alloc, b"Memory")?),
+        Err(SourceEnd::Failed) => Ok(Vec::from_slice(alloc, b"Failed")?),
+        Err(SourceEnd::Memory) => Ok(Vec::from_slice(alloc, b"Memory")?),
     }
 }
 
