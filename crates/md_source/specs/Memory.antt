@@ -1,5 +1,5 @@
 -- What contracts see of the outside in memory.
-use Rattle.std.specs.Prelude.{◌≡◌, ◌↔◌, ℕ, ◌+◌, ◌-◌, ◌^◌, ◌≤◌, min, List, Contains, Result, IsErr, OnErr, OnOk}
+use Rattle.std.specs.Prelude.{◌≡◌, ◌↔◌, ℕ, ◌+◌, ◌-◌, ◌^◌, ◌≤◌, min, ℤ, List, Contains, Result, IsErr, OnErr, OnOk}
 
 -- the numbers of the calls that fail, and how many calls and faults there were; both counts stop at 2 ^ 64 - 1
 pub record Plan : Type 0 where
@@ -39,4 +39,9 @@ pub record PlannedFeed : Type 0 where
 -- a sink with a plan of failures
 pub record PlannedDrain : Type 0 where
   pub drain : Drain
+  pub plan : Plan
+
+-- a clock with a plan of failures
+pub record PlannedMoment : Type 0 where
+  pub moment : ℤ
   pub plan : Plan

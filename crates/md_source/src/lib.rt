@@ -3,20 +3,24 @@
 #![tactic(auto)]
 
 mod adapters;
+mod clock;
 mod fault;
 mod memory;
 mod put;
 mod sink;
 mod source;
 mod sure;
+mod tree;
 
 pub use adapters::{Reading, Writing};
+pub use clock::{Clock, MemoryClock, SureClock};
 pub use fault::Failed;
 pub use memory::{MemorySink, MemorySource};
 pub use put::{PutEnd, put_all, put_texts};
 pub use sink::Sink;
 pub use source::{Source, SourceEnd, read_all};
 pub use sure::{SureSink, SureSource};
+pub use tree::{Entry, ListEnd, ReadEnd, Tree};
 
 #[cfg(test)]
 mod tests;
