@@ -10,6 +10,7 @@ mod put;
 mod sink;
 mod source;
 mod sure;
+mod sure_tree;
 mod tree;
 
 pub use adapters::{Reading, Writing};
@@ -20,6 +21,7 @@ pub use put::{PutEnd, put_all, put_texts};
 pub use sink::Sink;
 pub use source::{Source, SourceEnd, read_all};
 pub use sure::{SureSink, SureSource};
+pub use sure_tree::SureTree;
 pub use tree::{Entry, ListEnd, ReadEnd, Tree};
 
 #[cfg(test)]
