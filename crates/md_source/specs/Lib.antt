@@ -1,5 +1,6 @@
 pub mod Causes
 pub mod Memory
 pub mod Puts
+pub mod PlannedTree
 pub mod Tree
 pub mod Adapters

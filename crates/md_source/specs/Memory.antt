@@ -20,6 +20,11 @@ pub record FollowsPlan {T E : Type 0} (old new : Plan) (result : Result T E) : T
   pub fault : OnErr result (new.faults ≡ min (old.faults + 1) (2 ^ 64 - 1))
   pub kept : OnOk result (new.faults ≡ old.faults)
 
+-- one call more
+pub record IsNextPlan (old new : Plan) : Type 0 where
+  pub fails : new.fails ≡ old.fails
+  pub calls : new.calls ≡ min (old.calls + 1) (2 ^ 64 - 1)
+
 -- a source: the bytes that are left, and the most that one call gives
 pub record Feed : Type 0 where
   pub left : List ℕ
