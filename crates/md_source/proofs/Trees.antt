@@ -14,7 +14,7 @@ found-All P [] path all = tt
 found-All P (file ∷ files) path all = elim (is_same file.0.path path) as (λ b. IfSome (cond b (Some file) (file_at files path)) (λ found. P found.0)) [
   | true ↦ all 0 file.0 (omega arith)
   | false ↦ found-All P files path (λ k d below. all (suc k) d (omega arith))
-  ]
+]
 
 -- what is found has the path that was asked
 pub found-same : (files : List File) (path : List ℕ) → IfSome (file_at files path) (λ file. file.0.path ≡ path)
@@ -22,7 +22,7 @@ found-same [] path = tt
 found-same (file ∷ files) path = elim (is_same file.0.path path) as (λ b. is_same file.0.path path ≡ b → IfSome (cond b (Some file) (file_at files path)) (λ found. found.0.path ≡ path)) [
   | true ↦ λ same. same_exact file.0.path path same
   | false ↦ λ _. found-same files path
-  ] refl
+] refl
 
 -- the entries below a folder are a listing of it
 pub IsListing-below : (files : List File) (folder : List ℕ) → IsListing [] (entries_of files) → IsListing folder (entries_below files folder)

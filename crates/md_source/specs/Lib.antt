@@ -1,4 +1,5 @@
 pub mod Causes
+pub mod Listing
 pub mod Memory
 pub mod Puts
 pub mod PlannedTree

@@ -5,6 +5,9 @@
 mod adapters;
 mod clock;
 mod fault;
+mod folder;
+mod listing;
+mod machine_clock;
 mod memory;
 mod memory_tree;
 mod put;
@@ -17,6 +20,8 @@ mod tree;
 pub use adapters::{Reading, Writing};
 pub use clock::{Clock, MemoryClock, SureClock};
 pub use fault::Failed;
+pub use folder::Folder;
+pub use machine_clock::MachineClock;
 pub use memory::{MemorySink, MemorySource};
 pub use memory_tree::MemoryTree;
 pub use put::{PutEnd, put_all, put_texts};

@@ -28,11 +28,7 @@ impl Model for MemoryTree {
 impl MemoryTree {
     /// A tree of these folders, the root among them, and of these files, which have distinct paths. Its calls
     /// of these numbers fail.
-    pub fn new(
-        folders: Vec<Path>,
-        files: Vec<(Entry, Items<u8>)>,
-        fails: Vec<u64>,
-    ) -> MemoryTree
+    pub fn new(folders: Vec<Path>, files: Vec<(Entry, Items<u8>)>, fails: Vec<u64>) -> MemoryTree
         requires { IsContent (record { folders = folders.items; files = files.items }) }
         ensures { result ≡ record { content = record { folders = folders.items; files = files.items }; plan = new_plan fails.items } }
     {
