@@ -10,8 +10,8 @@ use Rattle.md_value.specs.Values.{is_before, IsMoment}
 use Rattle.md_value.specs.Path.{is_inside}
 use Rattle.md_value.specs.declared.value.TheConstants.{LOW, HIGH}
 use Rattle.md_value.proofs.Orders.{before_trans, itself_not_before}
-use Rattle.md_source.specs.Listing.{is_below, is_ascending}
-use Rattle.md_source.specs.Tree.{IsListing}
+use Rattle.md_source.specs.Listing.{is_file, is_below, is_ascending}
+use Rattle.md_source.specs.Tree.{File, IsListing, entries_of}
 use Rattle.md_source.specs.declared.tree.Entry.{Entry}
 
 -- at most one entry ascends
@@ -19,6 +19,11 @@ pub ascending_short : (entries : List Entry) → length entries < 2 → is_ascen
 ascending_short [] short = refl
 ascending_short (entry ∷ []) short = refl
 ascending_short (entry ∷ next ∷ entries) short = absurd (omega arith)
+
+pub ascending_short_files : (files : List File) → length files < 2 → is_ascending (entries_of files) ≡ true
+ascending_short_files [] short = refl
+ascending_short_files (file ∷ []) short = refl
+ascending_short_files (file ∷ next ∷ files) short = absurd (omega arith)
 
 differs_before : (p q : List ℕ) → is_before p q ≡ true → p ≢ q
 differs_before p q before same = true≢false (sym before ∙ ap (is_before p) (sym same) ∙ itself_not_before p)
@@ -44,13 +49,17 @@ named : (path : List ℕ) → not (length path == 0) ≡ true → path ≢ []
 named [] none same = true≢false (sym none)
 named (b ∷ path) none same = cc
 
--- what the test says of one entry
+-- what the tests say of one entry
+is_file-parts : (entry : Entry) → is_file entry ≡ true → (entry.path ≢ []) × IsMoment entry.changed
+is_file-parts entry file =
+    let parts = and_parts (not (length entry.path == 0)) (int_le LOW entry.changed && int_le entry.changed HIGH) file in
+    let moment = and_parts (int_le LOW entry.changed) (int_le entry.changed HIGH) parts.1 in
+    (named entry.path parts.0, (within LOW entry.changed moment.0, within entry.changed HIGH moment.1))
+
 is_below-parts : (folder : List ℕ) (entry : Entry) → is_below folder entry ≡ true → (is_inside entry.path folder ≡ true) × ((entry.path ≢ []) × IsMoment entry.changed)
 is_below-parts folder entry below =
-    let inside = and_parts (is_inside entry.path folder) (not (length entry.path == 0) && (int_le LOW entry.changed && int_le entry.changed HIGH)) below in
-    let rest = and_parts (not (length entry.path == 0)) (int_le LOW entry.changed && int_le entry.changed HIGH) inside.1 in
-    let moment = and_parts (int_le LOW entry.changed) (int_le entry.changed HIGH) rest.1 in
-    (inside.0, (named entry.path rest.0, (within LOW entry.changed moment.0, within entry.changed HIGH moment.1)))
+    let parts = and_parts (is_inside entry.path folder) (is_file entry) below in
+    (parts.0, is_file-parts entry parts.1)
 
 pub IsListing-tested : (folder : List ℕ) (entries : List Entry) → list_all (is_below folder) entries ≡ true → is_ascending entries ≡ true → IsListing folder entries
 IsListing-tested folder entries below ascending =
@@ -59,5 +68,20 @@ IsListing-tested folder entries below ascending =
       inside = λ k d lt. (is_below-parts folder (get_or entries k d) (all k d lt)).0;
       files = λ k d lt. (is_below-parts folder (get_or entries k d) (all k d lt)).1.0;
       moments = λ k d lt. (is_below-parts folder (get_or entries k d) (all k d lt)).1.1;
+      distinct = distinct entries ascending;
+    }
+
+inside_root : (path : List ℕ) → is_inside path [] ≡ true
+unfolding is_inside
+inside_root path = refl
+
+-- files that ascend are a listing of the root
+pub IsListing-of_root : (entries : List Entry) → list_all is_file entries ≡ true → is_ascending entries ≡ true → IsListing [] entries
+IsListing-of_root entries files ascending =
+    let all = AllPass-from_list_all is_file entries files in
+    record {
+      inside = λ k d lt. inside_root (get_or entries k d).path;
+      files = λ k d lt. (is_file-parts (get_or entries k d) (all k d lt)).0;
+      moments = λ k d lt. (is_file-parts (get_or entries k d) (all k d lt)).1;
       distinct = distinct entries ascending;
     }

@@ -5,9 +5,13 @@ use Rattle.md_value.specs.Path.{is_inside}
 use Rattle.md_value.specs.declared.value.TheConstants.{LOW, HIGH}
 use Rattle.md_source.specs.declared.tree.Entry.{Entry}
 
--- a file below the folder, changed at a moment
+-- not the root, and changed at a moment
+abbrev pub is_file : Entry → Bool
+is_file entry = not (length entry.path == 0) && (int_le LOW entry.changed && int_le entry.changed HIGH)
+
+-- a file below the folder
 abbrev pub is_below : PathBytes → Entry → Bool
-is_below folder entry = is_inside entry.path folder && (not (length entry.path == 0) && (int_le LOW entry.changed && int_le entry.changed HIGH))
+is_below folder entry = is_inside entry.path folder && is_file entry
 
 -- the paths ascend by bytes, so no two are the same
 abbrev pub is_ascending : List Entry → Bool

@@ -21,6 +21,7 @@ pub use adapters::{Reading, Writing};
 pub use clock::{Clock, MemoryClock, SureClock};
 pub use fault::Failed;
 pub use folder::Folder;
+pub use listing::is_content;
 pub use machine_clock::MachineClock;
 pub use memory::{MemorySink, MemorySource};
 pub use memory_tree::MemoryTree;
