@@ -1,0 +1,10 @@
+use Rattle.std.proofs.Common.{◌≡◌, length}
+use Rattle.md_source.specs.Listing.{is_ascending}
+use Rattle.md_source.specs.Tree.{entries_of}
+use Rattle.md_source.proofs.listing.are_ascending_files.Given as goal
+
+abbrev pub invariant-loop-rest : goal.invariant-loop-rest
+invariant-loop-rest l = is_ascending (entries_of l.files) ≡ is_ascending (entries_of l.rest)
+
+abbrev pub decreases-loop-rest : goal.decreases-loop-rest
+decreases-loop-rest l = length l.rest

@@ -1,0 +1,36 @@
+//! The outside of the server: what it reads and writes, as traits with a content, where an object tells it,
+//! and a count of faults that never falls. A call that answers [`Failed`] raises the count, and no other does.
+#![tactic(auto)]
+
+mod adapters;
+mod clock;
+mod fault;
+mod folder;
+mod listing;
+mod machine_clock;
+mod memory;
+mod memory_tree;
+mod put;
+mod sink;
+mod source;
+mod sure;
+mod sure_tree;
+mod tree;
+
+pub use adapters::{Reading, Writing};
+pub use clock::{Clock, MemoryClock, SureClock};
+pub use fault::Failed;
+pub use folder::Folder;
+pub use listing::is_content;
+pub use machine_clock::MachineClock;
+pub use memory::{MemorySink, MemorySource};
+pub use memory_tree::MemoryTree;
+pub use put::{PutEnd, put_all, put_texts};
+pub use sink::Sink;
+pub use source::{Source, SourceEnd, read_all};
+pub use sure::{SureSink, SureSource};
+pub use sure_tree::SureTree;
+pub use tree::{Entry, ListEnd, ReadEnd, Tree};
+
+#[cfg(test)]
+mod tests;

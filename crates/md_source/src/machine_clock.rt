@@ -1,0 +1,45 @@
+// The machine's clock.
+ghost use Rattle.std.specs.Prelude.{◌≡◌, IsErr, IfOk, None};
+
+use crate::fault::count_fault;
+use crate::{Clock, Failed};
+use md_value::{HIGH, LOW};
+use std::time::{self, SystemTime, UNIX_EPOCH};
+
+/// The machine's clock. It fails where the system does, and where the time is before 1970.
+#[derive(Drop)]
+pub struct MachineClock<R> {
+    rt: R,
+    faults: u64,
+}
+
+impl<R: time::Clock> MachineClock<R> {
+    /// The clock, with no fault yet.
+    pub fn new(rt: R) -> MachineClock<R> {
+        MachineClock { rt, faults: 0 }
+    }
+}
+
+// Seconds since 1970.
+fn seconds<R: time::Clock>(rt: &R) -> Result<u64, Failed> {
+    match SystemTime::now(rt) {
+        Ok(now) => match now.duration_since(UNIX_EPOCH) {
+            Ok(duration) => Ok(duration.as_secs()),
+            Err(_) => Err(Failed),
+        },
+        Err(_) => Err(Failed),
+    }
+}
+
+impl<R: time::Clock> Clock for MachineClock<R> {
+    ghost moment = { λ c. None };
+
+    ghost faults = { λ c. c.faults };
+
+    fn now(&mut self) -> Result<i64, Failed> {
+        match seconds(&self.rt) {
+            Ok(seconds) => Ok(i64::try_from(seconds).unwrap_or(HIGH).clamp(LOW, HIGH)),
+            Err(_) => Err(count_fault(&mut self.faults)),
+        }
+    }
+}
