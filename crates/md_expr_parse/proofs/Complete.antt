@@ -57,6 +57,7 @@ grouped negated ts es outer ors ands rest inner =
 
 mutual
   unfolding Reached
+
   unit_runs : {ts : List Token} {e : Expr} → IsUnit ts e → (outer : List Level) (ors ands : List Expr) (rest : List Token) → runs false outer ors ands (ts ++ rest) ≡ runs true outer ors (ands ++ e ∷ []) rest
   unit_runs (comparison {ts} {t} c) outer ors ands rest =
       ap (option_and_then (run false outer ors ands)) (tested c rest) ∙ onward (group 0 rest) (item.Test t) _ _ (λ is. refl)
@@ -75,12 +76,15 @@ mutual
   any_runs : {ts : List Token} {xs : List Expr} → IsAny ts xs → (outer : List Level) (ors : List Expr) (rest : List Token) → Reached outer ors ts xs rest
   any_runs (last_all {ts} {es} a) outer ors rest = (ors, es, refl, all_runs a outer ors [] rest)
   any_runs (or {a} {b} {es} {xs} u v) outer ors rest =
-      let next = any_runs v outer (ors ++ all_of es ∷ []) rest in
-      (next.0, next.1, next.2 ∙ append_assoc ors (all_of es ∷ []) xs,
+      let next = any_runs v outer (ors ++ all_of es ∷ []) rest in (
+        next.0,
+        next.1,
+        next.2 ∙ append_assoc ors (all_of es ∷ []) xs,
         ap (runs false outer ors []) (append_assoc a (token.Or ∷ b) rest)
-        ∙ all_runs u outer ors [] (token.Or ∷ (b ++ rest))
-        ∙ onward (group 0 (b ++ rest)) item.Or _ _ (λ is. refl)
-        ∙ next.3)
+            ∙ all_runs u outer ors [] (token.Or ∷ (b ++ rest))
+            ∙ onward (group 0 (b ++ rest)) item.Or _ _ (λ is. refl)
+            ∙ next.3,
+      )
 
 pub expression_runs : {ts : List Token} {e : Expr} → IsExpression ts e → runs false [] [] [] ts ≡ Some e
 unfolding Reached

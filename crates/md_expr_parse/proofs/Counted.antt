@@ -59,44 +59,53 @@ then_map (Some ks) is js = ap Some (sym (append_assoc is js ks))
 
 -- one after the other, with a connective between them
 joined : (a b : List Token) (t : Token) (i : Item) (m n p q : ℕ) → ((ts : List Token) → group 0 (t ∷ ts) ≡ option_map (λ is. i ∷ is) (group 0 ts)) → ((now : ℕ) (is : List Item) → deepest now (i ∷ is) ≡ deepest now is) → ((is : List Item) → comparisons_in (i ∷ is) ≡ comparisons_in is) → Counts a m p → Counts b n q → Counts (a ++ t ∷ b) (max m n) (p + q)
-joined a b t i m n p q one flat free x y = (x.0 ++ i ∷ y.0, record {
-  items = λ rest.
-      ap (group 0) (append_assoc a (t ∷ b) rest) ∙ x.1.items (t ∷ (b ++ rest)) ∙ ap (option_map (λ js. x.0 ++ js)) (one (b ++ rest) ∙ ap (option_map (λ js. i ∷ js)) (y.1.items rest) ∙ then_map (group 0 rest) (i ∷ []) y.0) ∙ then_map (group 0 rest) x.0 (i ∷ y.0);
-  groups = λ now js.
-      let e : deepest now ((x.0 ++ i ∷ y.0) ++ js) ≡ max (now + m) (deepest now (y.0 ++ js)) = ap (deepest now) (append_assoc x.0 (i ∷ y.0) js) ∙ x.1.groups now (i ∷ (y.0 ++ js)) ∙ ap (max (now + m)) (flat now (y.0 ++ js)) in
-      omega (arith, e, y.1.groups now js);
-  comparisons = λ js.
-      let e : comparisons_in ((x.0 ++ i ∷ y.0) ++ js) ≡ p + comparisons_in (y.0 ++ js) = ap comparisons_in (append_assoc x.0 (i ∷ y.0) js) ∙ x.1.comparisons (i ∷ (y.0 ++ js)) ∙ ap (λ n. p + n) (free (y.0 ++ js)) in
-      omega (arith, e, y.1.comparisons js);
-})
+joined a b t i m n p q one flat free x y = (
+  x.0 ++ i ∷ y.0,
+  record {
+    items = λ rest.
+        ap (group 0) (append_assoc a (t ∷ b) rest) ∙ x.1.items (t ∷ (b ++ rest)) ∙ ap (option_map (λ js. x.0 ++ js)) (one (b ++ rest) ∙ ap (option_map (λ js. i ∷ js)) (y.1.items rest) ∙ then_map (group 0 rest) (i ∷ []) y.0) ∙ then_map (group 0 rest) x.0 (i ∷ y.0);
+    groups = λ now js.
+        let e : deepest now ((x.0 ++ i ∷ y.0) ++ js) ≡ max (now + m) (deepest now (y.0 ++ js)) = ap (deepest now) (append_assoc x.0 (i ∷ y.0) js) ∙ x.1.groups now (i ∷ (y.0 ++ js)) ∙ ap (max (now + m)) (flat now (y.0 ++ js)) in
+        omega (arith, e, y.1.groups now js);
+    comparisons = λ js.
+        let e : comparisons_in ((x.0 ++ i ∷ y.0) ++ js) ≡ p + comparisons_in (y.0 ++ js) = ap comparisons_in (append_assoc x.0 (i ∷ y.0) js) ∙ x.1.comparisons (i ∷ (y.0 ++ js)) ∙ ap (λ n. p + n) (free (y.0 ++ js)) in
+        omega (arith, e, y.1.comparisons js);
+  },
+)
 
 -- a group, behind what opens it
 enclosed : (ts opens : List Token) (i : Item) (m p : ℕ) → ((rest : List Token) → group 0 (opens ++ rest) ≡ option_map (λ is. i ∷ is) (group 0 rest)) → ((now : ℕ) (is : List Item) → deepest now (i ∷ is) ≡ deepest (suc now) is) → ((is : List Item) → comparisons_in (i ∷ is) ≡ comparisons_in is) → Counts ts m p → Counts (opens ++ (ts ++ token.Close ∷ [])) (suc m) p
-enclosed ts opens i m p one deeper free x = (i ∷ (x.0 ++ item.Close ∷ []), record {
-  items = λ rest.
-      ap (group 0) (append_assoc opens (ts ++ token.Close ∷ []) rest ∙ ap (λ r. opens ++ r) (append_assoc ts (token.Close ∷ []) rest))
-      ∙ one (ts ++ token.Close ∷ rest)
-      ∙ ap (option_map (λ js. i ∷ js)) (x.1.items (token.Close ∷ rest) ∙ then_map (group 0 rest) x.0 (item.Close ∷ []))
-      ∙ then_map (group 0 rest) (i ∷ []) (x.0 ++ item.Close ∷ []);
-  groups = λ now js.
-      let e : deepest now ((i ∷ (x.0 ++ item.Close ∷ [])) ++ js) ≡ max (suc now + m) (max (suc now) (deepest (suc now - 1) js)) = deeper now _ ∙ ap (deepest (suc now)) (append_assoc x.0 (item.Close ∷ []) js) ∙ x.1.groups (suc now) (item.Close ∷ js) in
-      let n : suc now - 1 ≡ now = omega arith in
-      let d : deepest (suc now - 1) js ≡ deepest now js = ap (λ k. deepest k js) n in
-      let l : now ≤ deepest now js = at_least now js in
-      omega (arith, e, d, l);
-  comparisons = λ js. free _ ∙ ap comparisons_in (append_assoc x.0 (item.Close ∷ []) js) ∙ x.1.comparisons (item.Close ∷ js);
-})
+enclosed ts opens i m p one deeper free x = (
+  i ∷ (x.0 ++ item.Close ∷ []),
+  record {
+    items = λ rest.
+        ap (group 0) (append_assoc opens (ts ++ token.Close ∷ []) rest ∙ ap (λ r. opens ++ r) (append_assoc ts (token.Close ∷ []) rest))
+        ∙ one (ts ++ token.Close ∷ rest)
+        ∙ ap (option_map (λ js. i ∷ js)) (x.1.items (token.Close ∷ rest) ∙ then_map (group 0 rest) x.0 (item.Close ∷ []))
+        ∙ then_map (group 0 rest) (i ∷ []) (x.0 ++ item.Close ∷ []);
+    groups = λ now js.
+        let e : deepest now ((i ∷ (x.0 ++ item.Close ∷ [])) ++ js) ≡ max (suc now + m) (max (suc now) (deepest (suc now - 1) js)) = deeper now _ ∙ ap (deepest (suc now)) (append_assoc x.0 (item.Close ∷ []) js) ∙ x.1.groups (suc now) (item.Close ∷ js) in
+        let n : suc now - 1 ≡ now = omega arith in
+        let d : deepest (suc now - 1) js ≡ deepest now js = ap (λ k. deepest k js) n in
+        let l : now ≤ deepest now js = at_least now js in
+        omega (arith, e, d, l);
+    comparisons = λ js. free _ ∙ ap comparisons_in (append_assoc x.0 (item.Close ∷ []) js) ∙ x.1.comparisons (item.Close ∷ js);
+  },
+)
 
 recount : (ts : List Token) (m p q : ℕ) → p ≡ q → Counts ts m p → Counts ts m q
 recount ts m p q e x = subst (Counts ts m) e x
 
 mutual
   unit_counts : {ts : List Token} {e : Expr} (u : IsUnit ts e) → Counts ts (unit_groups u) (comparisons e)
-  unit_counts (comparison {ts} {t} c) = (item.Test t ∷ [], record {
-    items = λ rest. tested c rest;
-    groups = λ now js. let l : now ≤ deepest now js = at_least now js in omega arith;
-    comparisons = λ js. omega (arith, comparisons-Test t);
-  })
+  unit_counts (comparison {ts} {t} c) = (
+    item.Test t ∷ [],
+    record {
+      items = λ rest. tested c rest;
+      groups = λ now js. let l : now ≤ deepest now js = at_least now js in omega arith;
+      comparisons = λ js. omega (arith, comparisons-Test t);
+    },
+  )
   unit_counts (in_group {ts} {es} a) = recount _ _ _ _ (sym (comparisons_any_of es)) (enclosed ts (token.Open ∷ []) item.Open _ _ (λ rest. refl) (λ now is. refl) (λ is. refl) (any_counts a))
   unit_counts (not_group {ts} {es} a) = recount _ _ _ _ (sym (comparisons-Not (any_of es) ∙ comparisons_any_of es)) (enclosed ts (token.Not ∷ token.Open ∷ []) item.OpenNot _ _ (λ rest. refl) (λ now is. refl) (λ is. refl) (any_counts a))
 

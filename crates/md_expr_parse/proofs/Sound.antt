@@ -189,6 +189,7 @@ moved {x} {y} {e} p h = subst (λ z. IsExpression z e) p h
 
 mutual
   unfolding AreItems IsItem opener
+
   want_sound : (is : List Item) {o a b : List Token} {outer : List Level} {ors ands : List Expr} (ts : List Token) (e : Expr) → Outer o outer → Begun a ors → Joined b ands → AreItems ts is → run false outer ors ands is ≡ Some e → IsExpression (o ++ (a ++ (b ++ ts))) e
   want_sound (item.Test t ∷ is) {o} {a} {b} ts e p g j h r =
       let q : o ++ (a ++ (b ++ (h.0 ++ h.1))) ≡ o ++ (a ++ (b ++ ts)) = ap (λ x. o ++ (a ++ (b ++ x))) (sym h.2) in

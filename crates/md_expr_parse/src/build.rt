@@ -12,7 +12,6 @@ use md_expr_tree::{Expr, Item};
 use sqlite_items::{Boxed, Items};
 use std::alloc::{AllocError, Global};
 
-
 /// An expression that is not over, up to the group that is open in it.
 #[derive(Drop)]
 pub struct Level {
@@ -36,7 +35,9 @@ fn all_of(list: Items<Expr>) -> Expr
     ensures { result ≡ all_of list }
 {
     let mut list = list;
-    if list.len() == 1 && let Some(e) = list.pop() {
+    if list.len() == 1
+        && let Some(e) = list.pop()
+    {
         e
     } else {
         Expr::All(list)
@@ -48,7 +49,9 @@ fn any_of(list: Items<Expr>) -> Expr
     ensures { result ≡ any_of list }
 {
     let mut list = list;
-    if list.len() == 1 && let Some(e) = list.pop() {
+    if list.len() == 1
+        && let Some(e) = list.pop()
+    {
         e
     } else {
         Expr::Any(list)
@@ -88,7 +91,12 @@ impl Builder {
     fn unit(self, e: Expr) -> Result<Builder, AllocError>
         ensures { IfOk result (λ b. (is : List Item) → resume b is ≡ run true (reverse self.outer) self.ors (self.ands ++ e ∷ []) is) }
     {
-        let Builder { outer, ors, mut ands, .. } = self;
+        let Builder {
+            outer,
+            ors,
+            mut ands,
+            ..
+        } = self;
         ands.push(e)?;
         Ok(Builder {
             outer,
@@ -101,7 +109,12 @@ impl Builder {
     fn open(self, alloc: Global, negated: bool) -> Result<Builder, AllocError>
         ensures { IfOk result (λ b. (is : List Item) → resume b is ≡ run false (record { ors = self.ors; ands = self.ands; negated = negated } ∷ reverse self.outer) [] [] is) }
     {
-        let Builder { mut outer, ors, ands, .. } = self;
+        let Builder {
+            mut outer,
+            ors,
+            ands,
+            ..
+        } = self;
         outer.push(Level { ors, ands, negated })?;
         Ok(Builder {
             outer,
@@ -114,7 +127,12 @@ impl Builder {
     fn next_all(self, alloc: Global) -> Result<Builder, AllocError>
         ensures { IfOk result (λ b. (is : List Item) → resume b is ≡ run false (reverse self.outer) (self.ors ++ all_of self.ands ∷ []) [] is) }
     {
-        let Builder { outer, mut ors, ands, .. } = self;
+        let Builder {
+            outer,
+            mut ors,
+            ands,
+            ..
+        } = self;
         ors.push(all_of(ands))?;
         Ok(Builder {
             outer,
@@ -128,11 +146,20 @@ impl Builder {
         requires { self.ready ≡ true }
         ensures { IfOk result (λ next. (is : List Item) → resume self (Close ∷ is) ≡ option_and_then (λ b. resume b is) next) }
     {
-        let Builder { mut outer, ors, ands, ready } = self;
+        let Builder {
+            mut outer,
+            ors,
+            ands,
+            ready,
+        } = self;
         match outer.pop() {
             None => Ok(None),
             Some(level) => {
-                let Level { ors: before, ands: units, negated } = level;
+                let Level {
+                    ors: before,
+                    ands: units,
+                    negated,
+                } = level;
                 let e = signed(alloc, negated, closed(ors, ands)?)?;
                 let inner = Builder {
                     outer,
@@ -165,7 +192,12 @@ impl Builder {
     pub fn finish(self) -> Result<Option<Expr>, AllocError>
         ensures { IfOk result (λ e. e ≡ resume self []) }
     {
-        let Builder { outer, ors, ands, ready } = self;
+        let Builder {
+            outer,
+            ors,
+            ands,
+            ready,
+        } = self;
         if ready && outer.is_empty() {
             Ok(Some(closed(ors, ands)?))
         } else {
