@@ -1,0 +1,13 @@
+//! Query expressions after Apple's File Metadata Query Expression Syntax: their texts and their trees.
+#![tactic(auto)]
+
+mod reading;
+#[cfg(test)]
+mod tests;
+
+
+
+
+pub use md_expr_parse::{MOST_COMPARISONS, MOST_GROUPS, ReadError};
+pub use md_expr_tree::{Expr, Literal, Op, Subject, Test};
+pub use reading::{MOST_BYTES, one_reading, read};

@@ -1,0 +1,39 @@
+// The expression that a text reads as.
+ghost use Rattle.std.specs.Prelude.{◌≡◌, IfOk, true, chars};
+ghost use Rattle.md_expr_tree.specs.WellMade.{is_well_made};
+ghost use Rattle.md_expr.specs.Answer.{Answers, HasOneReading};
+
+use md_expr_lex::{characters, tokens_of};
+use md_expr_parse::{ReadError, read_tokens};
+use md_expr_tree::Expr;
+use std::alloc::Global;
+use std::collections::VecDeque;
+
+/// The most bytes of an expression's text.
+pub const MOST_BYTES: usize = 65_536;
+
+/// The expression that the text reads as. The grammar and its meaning stand in `docs/EXPRESSIONS.md`.
+///
+/// The refusals are tried in this order: `TooLong` exactly where the text has over 65,536 bytes, `NotExpression`
+/// exactly where it is not in the grammar, `TooDeep` exactly where over 64 groups are open at one place, `TooMany`
+/// exactly where it has over 4,096 comparisons.
+pub fn read(alloc: Global, text: &str) -> Result<Expr, ReadError>
+    ensures answer { Answers result text.now }
+    ensures well_made { IfOk result (λ e. is_well_made e ≡ true) }
+{
+    if MOST_BYTES < text.len() {
+        return Err(ReadError::TooLong);
+    }
+    let text = characters(alloc, text)?;
+    let Some(tokens) = tokens_of(alloc, &text)? else {
+        return Err(ReadError::NotExpression);
+    };
+    read_tokens(alloc, VecDeque::from(tokens))
+}
+
+/// A law: a text reads as at most one expression, and in one way of opening groups.
+#[tactic(auto, using(crate::proofs::Readings::readings_agree))]
+pub fn one_reading(text: &str)
+    ensures { HasOneReading (chars text.now) }
+{
+}

@@ -1,0 +1,13 @@
+pub mod Bodies
+pub mod Clocks
+pub mod Complete
+pub mod Decimals
+pub mod Derive
+pub mod Fronts
+pub mod IsoParts
+pub mod Options
+pub mod Quoted
+pub mod Sound
+pub mod Spellings
+pub mod Tells
+pub mod Values

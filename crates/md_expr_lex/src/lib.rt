@@ -1,0 +1,17 @@
+//! Reads a text as the tokens of an expression.
+#![tactic(auto)]
+
+mod class;
+mod find;
+mod front;
+mod numbers;
+mod signs;
+mod strings;
+mod times;
+mod tokens;
+
+pub use class::Kind;
+pub use front::characters;
+pub use strings::Act;
+pub use times::Keyword;
+pub use tokens::tokens as tokens_of;
