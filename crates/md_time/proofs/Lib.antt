@@ -1,3 +1,4 @@
+pub mod AsciiTexts
 pub mod Calendar
 pub mod HeldText
 pub mod IsoMoments

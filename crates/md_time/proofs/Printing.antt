@@ -1,5 +1,5 @@
 -- Texts that are written piece by piece.
-use Rattle.std.proofs.Common.{◌≡◌, ℕ, List, ◌++◌, append_assoc, refl, ap, ◌∙◌}
+use Rattle.std.proofs.Common.{◌≡◌, ℕ, List, ◌++◌, append_assoc, ap, ◌∙◌}
 
 pub three_pieces : (old r s t a b c : List ℕ) → a ≡ old ++ r → b ≡ a ++ s → c ≡ b ++ t → c ≡ old ++ (r ++ s ++ t)
 three_pieces old r s t a b c e f g = g ∙ ap (λ x. x ++ t) (f ∙ ap (λ x. x ++ s) e) ∙ simp append_assoc

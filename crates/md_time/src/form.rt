@@ -8,17 +8,20 @@ use crate::days::{day_of, first_second, monday_of, month_number, month_start, ye
 use crate::iso_moment::iso_moment_in_range;
 use crate::range::{local_second, to_moment};
 
-/// A time form: a moment that is told from now, or from a text.
-///
-/// A count is the number of seconds, days, weeks, months or years by which the form lies after now,
-/// after the beginning of today, of this week (on Monday), of this month or of this year.
+/// A time form: a moment that is told from the local time of now, or by a text.
 #[derive(Clone, Copy, Debug, PartialEq, Eq)]
 pub enum Form {
+    /// So many seconds after now.
     Now(i64),
+    /// The first second of the day so many days after today.
     Day(i64),
+    /// The first second of the Monday so many weeks after the one on or before today.
     Week(i64),
+    /// The first second of the month so many months after this one.
     Month(i64),
+    /// The first second of the year so many years after this one.
     Year(i64),
+    /// The moment of an ISO text.
     Iso(IsoText),
 }
 
@@ -88,17 +91,15 @@ fn from_month(now: i64, offset: i32, count: i64) -> Option<i64>
 {
     let local = local_second(now, offset)?;
     let number = months_after(month_number(day_of(local)), count);
-    let second = month_start(number)?;
-    to_moment(second, offset)
+    to_moment(month_start(number)?, offset)
 }
 
 fn from_year(now: i64, offset: i32, count: i64) -> Option<i64>
     ensures { result ≡ from_now now offset (λ l. month_start ((pos (year_of (day_of l)) +ℤ count) *ℤ pos 12)) }
 {
     let local = local_second(now, offset)?;
-    let number = january_after(year_of(day_of(local)), count);
-    let second = month_start(number)?;
-    to_moment(second, offset)
+    let january = january_after(year_of(day_of(local)), count);
+    to_moment(month_start(january)?, offset)
 }
 
 #[tactic(auto, unfolding(crate::specs::Moments::moment_of))]

@@ -1,5 +1,6 @@
 // The ISO text of a time form.
 ghost use Rattle.std.specs.Prelude.{◌≡◌, ◌≤◌, length, IsTrue, IsNone, IfSome, ◌↔◌, false};
+ghost use Rattle.std.specs.Str.{IsAscii};
 ghost use Rattle.md_time.specs.IsoTexts.{is_iso};
 
 use crate::iso::is_iso;
@@ -54,6 +55,7 @@ impl IsoText {
     pub fn text(&self) -> &str
         ensures value { result.now ≡ self.now }
         ensures iso { IsTrue (is_iso self.now) }
+        ensures ascii { IsAscii self.now }
     {
         std::str::from_utf8(&self.bytes[..self.len]).unwrap()
     }

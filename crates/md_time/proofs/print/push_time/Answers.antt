@@ -1,5 +1,5 @@
 use Rattle.std.proofs.Common.{string_bytes, ◌/◌, ◌%◌}
-use Rattle.md_time.specs.Printed.{two_digits, four_digits, separated, time_text}
+use Rattle.md_time.specs.Printed.{two_digits, separated, time_text}
 use Rattle.md_time.proofs.Printing.{three_pieces}
 use Rattle.md_time.proofs.print.push_time.Goals as goal
 
