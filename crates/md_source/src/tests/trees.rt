@@ -4,12 +4,10 @@ use crate::{
 };
 use md_value::{Items, Path};
 use std::alloc::Global;
-use std::env;
-use std::fs;
-use std::io;
 use std::os::unix::fs::symlink;
 use std::test::Fail;
 use std::time::SystemTime;
+use std::{env, fs, io};
 
 const NOW: i64 = 1_710_496_800;
 
@@ -24,7 +22,10 @@ fn file(alloc: Global, text: &str, bytes: &str) -> Result<(Entry, Items<u8>), Fa
         size: 3,
         changed: NOW,
     };
-    Ok((entry, Items::from_vec(Vec::from_slice(alloc, bytes.as_bytes())?)))
+    Ok((
+        entry,
+        Items::from_vec(Vec::from_slice(alloc, bytes.as_bytes())?),
+    ))
 }
 
 // The paths that a listing gives, each followed by a blank, or how it ended.
@@ -81,15 +82,27 @@ fn trees_in_memory_are_read(rt: HostRuntime) -> Result<(), Fail> {
     assert!(rt; is_content(alloc, &folders, &files));
     // The calls of the numbers 2 and 5 fail.
     let mut tree = MemoryTree::new(folders, files, Vec::from_slice(alloc, &[2, 5])?);
-    assert_eq!(rt; listed(alloc, &mut tree, "")?.as_str(), "a.txt b.txt docs/c.txt ");
-    assert_eq!(rt; read(alloc, &mut tree, "a.txt", 2)?.as_slice(), b"ab".as_slice());
-    assert_eq!(rt; read(alloc, &mut tree, "b.txt", 9)?.as_slice(), b"failed".as_slice());
+    assert_eq!(rt;
+        listed(alloc, &mut tree, "")?.as_str(),
+        "a.txt b.txt docs/c.txt "
+    );
+    assert_eq!(rt;
+        read(alloc, &mut tree, "a.txt", 2)?.as_slice(),
+        b"ab".as_slice()
+    );
+    assert_eq!(rt;
+        read(alloc, &mut tree, "b.txt", 9)?.as_slice(),
+        b"failed".as_slice()
+    );
     assert_eq!(rt; listed(alloc, &mut tree, "docs")?.as_str(), "docs/c.txt ");
     assert_eq!(rt; found(alloc, &mut tree, "docs/c.txt")?, Ok(3));
     assert_eq!(rt; listed(alloc, &mut tree, "nowhere")?.as_str(), "failed");
     assert_eq!(rt; listed(alloc, &mut tree, "nowhere")?.as_str(), "absent");
     assert_eq!(rt; found(alloc, &mut tree, "docs")?, Err(ReadEnd::Absent));
-    assert_eq!(rt; read(alloc, &mut tree, "c.txt", 9)?.as_slice(), b"absent".as_slice());
+    assert_eq!(rt;
+        read(alloc, &mut tree, "c.txt", 9)?.as_slice(),
+        b"absent".as_slice()
+    );
 
     let mut folders = Vec::new(alloc);
     folders.push(Path::root(alloc))?;
@@ -144,7 +157,11 @@ fn a_real_folder_is_read(rt: HostRuntime) -> Result<(), Fail> {
         ("nowhere", "absent"),
     ];
     for (folder, want) in listings {
-        assert_eq!(rt; listed(alloc, &mut tree, folder)?.as_str(), want, "in {folder}");
+        assert_eq!(rt;
+            listed(alloc, &mut tree, folder)?.as_str(),
+            want,
+            "in {folder}"
+        );
     }
     let finds = [
         ("a.txt", Ok(5)),
@@ -166,7 +183,11 @@ fn a_real_folder_is_read(rt: HostRuntime) -> Result<(), Fail> {
         ("linked/b.txt", 9, "absent"),
     ];
     for (file, most, want) in reads {
-        assert_eq!(rt; read(alloc, &mut tree, file, most)?.as_slice(), want.as_bytes(), "of {file}");
+        assert_eq!(rt;
+            read(alloc, &mut tree, file, most)?.as_slice(),
+            want.as_bytes(),
+            "of {file}"
+        );
     }
     env::set_current_dir(&rt, "/")?;
     fs::remove_dir_all(&rt, place.as_str())?;
