@@ -1,5 +1,5 @@
 // Clocks.
-ghost use Rattle.std.specs.Prelude.{◌≡◌, ℤ, ℕ, IfOk, IfSome, IsOk, Option, Ok, Some};
+ghost use Rattle.std.specs.Prelude.{◌≡◌, ℤ, ℕ, IfOk, IfSome, Option, Ok, Some};
 ghost use Rattle.md_value.specs.Values.{IsMoment};
 ghost use Rattle.md_source.specs.Causes.{HasCause};
 ghost use Rattle.md_source.specs.Memory.{FollowsPlan, new_plan};

@@ -1,5 +1,5 @@
 // The machine's clock.
-ghost use Rattle.std.specs.Prelude.{◌≡◌, IsErr, IfOk, None};
+ghost use Rattle.std.specs.Prelude.{None};
 
 use crate::fault::count_fault;
 use crate::{Clock, Failed};

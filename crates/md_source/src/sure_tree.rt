@@ -1,7 +1,7 @@
 // A tree in memory that never fails.
-ghost use Rattle.std.specs.Prelude.{◌≡◌, ◌≤◌, true, false, find, take, IfOk, IfSome, IsErrOf, IsPermutation, vec_len, Some, None, map};
+ghost use Rattle.std.specs.Prelude.{◌≡◌, ◌≤◌, true, false, find, IfOk, IsErrOf, vec_len, Some, None};
 ghost use Rattle.std.specs.Option.{option_copied};
-ghost use Rattle.md_value.specs.Values.{IsMoment, is_same};
+ghost use Rattle.md_value.specs.Values.{IsMoment};
 ghost use Rattle.md_source.specs.Tree.{Content, IsContent, IsListing, has_folder, entries_below, file_at, entry_at, bytes_at};
 ghost use Rattle.md_source.specs.declared.tree.ListEnd.TheVariants as list_end;
 ghost use Rattle.md_source.specs.declared.tree.ReadEnd.TheVariants as read_end;

@@ -1,5 +1,5 @@
 // Trees of files.
-ghost use Rattle.std.specs.Prelude.{◌≡◌, ◌≤◌, ℕ, Bool, true, false, take, IfOk, IfSome, IsErrOf, IsPermutation, vec_len, Option, Some, None};
+ghost use Rattle.std.specs.Prelude.{◌≡◌, ◌≤◌, ℕ, true, false, IfOk, IfSome, IsErrOf, IsPermutation, vec_len, Option, Some, None};
 ghost use Rattle.md_value.specs.Values.{IsMoment};
 ghost use Rattle.md_source.specs.Tree.{Content, IsListing, has_folder, entries_below, file_at, entry_at, bytes_at, ListHasCause, ReadHasCause};
 
