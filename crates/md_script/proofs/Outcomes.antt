@@ -1,5 +1,5 @@
 -- What lines from a number on make of a script.
-use Rattle.std.proofs.Common.{◌≡◌, ℕ, ◌+◌, List, [], ◌∷◌, ◌++◌, Option, Some, None, Result, Ok, Err, refl, sym, ◌∙◌, ap, append_assoc, append-nil}
+use Rattle.std.proofs.Common.{◌≡◌, ℕ, ◌+◌, ◌==◌, true, length, arith, List, [], ◌∷◌, ◌++◌, Option, Some, None, Result, Ok, Err, refl, sym, ◌∙◌, ap, append_assoc, append-nil}
 use Rattle.std.specs.List.{filter_map, enumerate_from, position_from}
 use Rattle.std.specs.Str.Lines.{lines}
 use Rattle.md_script.specs.declared.script.What.{What}
@@ -49,3 +49,8 @@ module _ (read : List Line) (n : ℕ) (left : List (List ℕ)) (line : List ℕ)
   -- a line that says something is read
   pub said_step : (next : List Line) (w : What) → Some (Some w) ≡ said line → next ≡ read ++ record { number = n; what = w } ∷ [] → outcome next (n + 1) after ≡ whole
   said_step next w h pushed = ap (λ (l : List Line). outcome l (n + 1) after) pushed ∙ sym (outcome-said read n line after w (sym h)) ∙ ap (outcome read n) (sym is) ∙ here
+
+-- where no line is left, the outcome is what was read
+pub end_step : (read : List Line) (n : ℕ) (rest : List ℕ) (whole : Result (List Line) ScriptError) → (length rest == 0) ≡ true → outcome read n (lines rest) ≡ whole → whole ≡ Ok read
+end_step read n [] whole none here = sym here ∙ outcome-nil read n
+end_step read n (b ∷ bs) whole none here = absurd (grind (arith, none))
