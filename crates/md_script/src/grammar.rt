@@ -70,12 +70,7 @@ fn poll_of(client: u8, rest: &[u8]) -> Option<What>
 }
 
 #[tactic(auto, unfolding(crate::specs::Grammar::asked_of))]
-fn asked_of(
-    alloc: Global,
-    client: u8,
-    verb: &[u8],
-    rest: &[u8],
-) -> Result<Option<What>, AllocError>
+fn asked_of(alloc: Global, client: u8, verb: &[u8], rest: &[u8]) -> Result<Option<What>, AllocError>
     ensures { IfOk result (λ what. what ≡ asked_of client verb.now rest.now) }
 {
     if verb == b"query".as_slice() {

@@ -14,21 +14,15 @@ fn line_text(alloc: Global, line: &Line) -> Result<String, Fail> {
             client,
             number: query,
             name,
-        } => {
-            format!(in alloc; "{number} {client} query {query} [{}]\n", name.as_str())?
-        }
+        } => { format!(in alloc; "{number} {client} query {query} [{}]\n", name.as_str())? }
         What::Gather {
             client,
             number: query,
-        } => {
-            format!(in alloc; "{number} {client} gather {query}\n")?
-        }
+        } => { format!(in alloc; "{number} {client} gather {query}\n")? }
         What::Poll {
             client,
             number: query,
-        } => {
-            format!(in alloc; "{number} {client} poll {query}\n")?
-        }
+        } => { format!(in alloc; "{number} {client} poll {query}\n")? }
     };
     Ok(text)
 }
@@ -58,8 +52,14 @@ fn reads_lines(rt: HostRuntime) -> Result<(), Fail> {
         (b"\n# note\n\nput a.txt one", "4 put a.txt [one]\n"),
         (b"put a.txt\n", "1 put a.txt []\n"),
         (b"put a.txt \n", "1 put a.txt []\n"),
-        (b"put ./b//A.TXT  two  words ", "1 put b/A.TXT [ two  words ]\n"),
-        (b"put a\\sb.txt x\\ny\\t\\r\\\\\\s", "1 put a b.txt [x\ny\t\r\\ ]\n"),
+        (
+            b"put ./b//A.TXT  two  words ",
+            "1 put b/A.TXT [ two  words ]\n",
+        ),
+        (
+            b"put a\\sb.txt x\\ny\\t\\r\\\\\\s",
+            "1 put a b.txt [x\ny\t\r\\ ]\n",
+        ),
         (b"put a.txt \xc3\xa9", "1 put a.txt [é]\n"),
         (b"put a.txt \\q", "bad 1"),
         (b"put a.txt \\", "bad 1"),
@@ -81,8 +81,14 @@ fn reads_lines(rt: HostRuntime) -> Result<(), Fail> {
         (b"c0 poll 4294967296", "bad 1"),
         (b"c0 poll +1", "bad 1"),
         (b"c0 poll 1 ", "bad 1"),
-        (b"c0 query 1 where kMDItemFSName == \"a.txt\"", "1 0 query 1 [a.txt]\n"),
-        (b"c0 query 1 where kMDItemFSName == \"\"", "1 0 query 1 []\n"),
+        (
+            b"c0 query 1 where kMDItemFSName == \"a.txt\"",
+            "1 0 query 1 [a.txt]\n",
+        ),
+        (
+            b"c0 query 1 where kMDItemFSName == \"\"",
+            "1 0 query 1 []\n",
+        ),
         (b"c0 query 1 where kMDItemFSName == \"*\"", "bad 1"),
         (b"c0 query 1 where kMDItemFSName  == \"a\"", "bad 1"),
         (b"#\n#\xff\nat 1", "bad 2"),
