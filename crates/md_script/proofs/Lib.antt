@@ -1,0 +1,6 @@
+pub mod FirstLine
+pub mod Numerals
+pub mod Outcomes
+pub mod Reading
+pub mod Unescaping
+pub mod Verdicts
