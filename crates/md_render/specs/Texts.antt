@@ -148,7 +148,7 @@ held_text client number version rows = query_line client number (holding_text ve
 
 -- what a client holds where it has no live query of the number
 abbrev pub unheld_text : ℕ → ℕ → List ℕ
-unheld_text client number = query_line client number (codes "holds nothing\n")
+unheld_text client number = codes "c" ++ decimal client ++ codes " q" ++ decimal number ++ codes " holds nothing\n"
 
 -- whether a reply answers a draw
 abbrev pub answers_draw : Reply → Bool
