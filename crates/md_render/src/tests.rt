@@ -111,23 +111,6 @@ fn writes_replies(rt: HostRuntime) -> Result<(), Fail> {
         (Reply::Created(0), "created 0\n"),
         (Reply::Taken, "taken\n"),
         (Reply::TooMany, "too-many\n"),
-        (
-            Reply::Progress(Part {
-                hits: two_rows(alloc)?,
-                last: false,
-            }),
-            "progress 2\n  a/é.txt\n  b\\tc\\\\d\\r\\n.csv\n",
-        ),
-        (
-            Reply::Finished(
-                Part {
-                    hits: two_rows(alloc)?,
-                    last: true,
-                },
-                6,
-            ),
-            "finished 2 6\n  a/é.txt\n  b\\tc\\\\d\\r\\n.csv\n",
-        ),
         (Reply::AlreadyFinished(6), "already-finished 6\n"),
         (Reply::NotFinished, "not-finished\n"),
         (Reply::Held(2), "held 2\n"),
@@ -136,10 +119,6 @@ fn writes_replies(rt: HostRuntime) -> Result<(), Fail> {
         (Reply::StillDisabled(1), "still-disabled 1\n"),
         (Reply::Resumed, "resumed\n"),
         (Reply::NotDisabled, "not-disabled\n"),
-        (
-            Reply::Notice(notice(alloc)?),
-            "notice 8 11\n+ a/é.txt\n+ b\\tc\\\\d\\r\\n.csv\n~ k\n- x\\\\y\n",
-        ),
         (Reply::NotYet(10), "not-yet 10\n"),
         (Reply::Stopped, "stopped\n"),
         (Reply::NoQuery, "no-query\n"),
@@ -147,6 +126,42 @@ fn writes_replies(rt: HostRuntime) -> Result<(), Fail> {
     for (reply, want) in &rows {
         let text = entry_text(alloc, 1, &event, reply)?;
         assert_eq!(rt; text.strip_prefix("1 c0 q4294967295 "), Some(*want));
+    }
+    Ok(())
+}
+
+// The replies that have paths.
+#[test]
+fn writes_paths(rt: HostRuntime) -> Result<(), Fail> {
+    let alloc = rt.alloc();
+    let hits = two_rows(alloc)?;
+    let last_hits = two_rows(alloc)?;
+    let notice = notice(alloc)?;
+    let event = Event::Stop {
+        client: 1,
+        number: 2,
+    };
+    let part = Part { hits, last: false };
+    let last_part = Part {
+        hits: last_hits,
+        last: true,
+    };
+    let rows = [
+        (
+            Reply::Progress(part),
+            "3 c1 q2 progress 2\n  a/é.txt\n  b\\tc\\\\d\\r\\n.csv\n",
+        ),
+        (
+            Reply::Finished(last_part, 6),
+            "3 c1 q2 finished 2 6\n  a/é.txt\n  b\\tc\\\\d\\r\\n.csv\n",
+        ),
+        (
+            Reply::Notice(notice),
+            "3 c1 q2 notice 8 11\n+ a/é.txt\n+ b\\tc\\\\d\\r\\n.csv\n~ k\n- x\\\\y\n",
+        ),
+    ];
+    for (reply, want) in &rows {
+        assert_eq!(rt; entry_text(alloc, 3, &event, reply)?.as_str(), *want);
     }
     Ok(())
 }
