@@ -1,5 +1,5 @@
 -- The text of a journal made of two.
-use Rattle.std.proofs.Common.{◌≡◌, ℕ, suc, ◌+◌, List, [], ◌∷◌, ◌++◌, length, refl, sym, ◌∙◌, ap, arith, append_assoc}
+use Rattle.std.proofs.Common.{◌≡◌, ℕ, suc, ◌+◌, List, [], ◌∷◌, ◌++◌, length, sym, ◌∙◌, ap, arith, append_assoc}
 use Rattle.md_machine.specs.declared.Event.{Event}
 use Rattle.md_machine.specs.declared.Reply.{Reply}
 use Rattle.md_render.specs.Texts.{entry_text, journal_text}

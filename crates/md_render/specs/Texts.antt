@@ -108,9 +108,13 @@ close_text ticket reply.Closed = number_line (codes "closed") ticket
 close_text ticket reply.NoTicket = number_line (codes "no-ticket") ticket
 close_text ticket _ = []
 
--- an answer to a query's event: the client, the query's number and the reply
+-- a text that begins with a client and a query's number
+abbrev pub query_line : ℕ → ℕ → List ℕ → List ℕ
+query_line client number text = codes "c" ++ decimal client ++ codes " q" ++ decimal number ++ codes " " ++ text
+
+-- an answer to a query's event
 abbrev pub asked_text : ℕ → ℕ → Reply → List ℕ
-asked_text client number reply = codes "c" ++ decimal client ++ codes " q" ++ decimal number ++ codes " " ++ query_text reply
+asked_text client number reply = query_line client number (query_text reply)
 
 -- an event with its reply, without the place
 abbrev pub event_text : Event → Reply → List ℕ
@@ -133,6 +137,18 @@ entry_text place event reply = decimal place ++ codes " " ++ event_text event re
 abbrev pub journal_text : ℕ → List (Event × Reply) → List ℕ
 journal_text place [] = []
 journal_text place (entry ∷ entries) = entry_text place entry.0 entry.1 ++ journal_text (place + 1) entries
+
+-- what is held: how many rows and of which version, then the rows
+abbrev pub holding_text : ℕ → List Row → List ℕ
+holding_text version rows = pair_line (codes "holds") (length rows) version ++ row_lines (codes "  ") rows
+
+-- what a client holds of a live query
+abbrev pub held_text : ℕ → ℕ → ℕ → List Row → List ℕ
+held_text client number version rows = query_line client number (holding_text version rows)
+
+-- what a client holds where it has no live query of the number
+abbrev pub unheld_text : ℕ → ℕ → List ℕ
+unheld_text client number = codes "c" ++ decimal client ++ codes " q" ++ decimal number ++ codes " holds nothing\n"
 
 -- whether a reply answers a draw
 abbrev pub answers_draw : Reply → Bool

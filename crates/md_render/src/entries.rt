@@ -1,6 +1,6 @@
 // The text of an event with its reply.
-ghost use Rattle.std.specs.Prelude.{◌≡◌, ◌++◌, true, IfOk, OnOk, string_bytes};
-ghost use Rattle.md_render.specs.Texts.{asked_text, close_text, commit_text, draw_text, entry_text, event_text, has_text, ticket_text};
+ghost use Rattle.std.specs.Prelude.{◌≡◌, ◌++◌, IfOk, OnOk, string_bytes};
+ghost use Rattle.md_render.specs.Texts.{asked_text, close_text, commit_text, draw_text, entry_text, event_text, ticket_text};
 
 use crate::lines::{push_line, push_marked, push_number, push_pair};
 use crate::replies::push_reply;
@@ -71,8 +71,9 @@ fn push_event(text: &mut String, event: &Event, reply: &Reply) -> Result<(), All
     }
 }
 
-/// Appends the journal's entry for an event with its reply: the place, which counts from 1, then the texts of both, each
-/// line ended by a line feed. A hit, and an item of a notice, has a line of its own. Fails only where memory runs out.
+/// Appends the journal's entry for an event with its reply: the place, which counts from 1, and the text of both, each
+/// line ended by a line feed. A hit, and an item of a notice, has a line of its own. A reply that the machine never gives
+/// to the event adds nothing behind the place. Fails only where memory runs out.
 #[tactic(auto, unfolding(crate::specs::Texts::entry_text))]
 pub fn push_entry(
     text: &mut String,
@@ -80,7 +81,6 @@ pub fn push_entry(
     event: &Event,
     reply: &Reply,
 ) -> Result<(), AllocError>
-    requires { has_text event.now reply.now ≡ true }
     ensures { OnOk result (string_bytes text.new ≡ string_bytes text.old ++ entry_text place event.now reply.now) }
 {
     write!(text, "{place} ")?;
@@ -94,7 +94,6 @@ pub fn entry_text(
     event: &Event,
     reply: &Reply,
 ) -> Result<String, AllocError>
-    requires { has_text event.now reply.now ≡ true }
     ensures { IfOk result (λ text. string_bytes text ≡ entry_text place event.now reply.now) }
 {
     let mut text = String::new(alloc);

@@ -1,11 +1,16 @@
-//! The text of the journal: a line, or a few, for each event with its reply.
+//! The text of the journal: a line, or a few, for each event with its reply, and of what a client holds.
 #![tactic(auto)]
 
 mod entries;
 mod escapes;
+mod held;
 pub mod laws;
 mod lines;
 mod replies;
 
 pub use entries::{entry_text, push_entry};
 pub use escapes::escaped;
+pub use held::{push_held, push_unheld};
+
+#[cfg(test)]
+mod tests;

@@ -1,0 +1,182 @@
+use crate::{entry_text, escaped, push_held, push_unheld};
+use md_machine::{Batch, Event, Reply, Spec};
+use md_value::{Attrs, Items, Path};
+use md_world::{Change, Notice, Part, Row, Rows};
+use std::alloc::Global;
+use std::test::Fail;
+
+fn row(alloc: Global, path: &str) -> Result<Row, Fail> {
+    Ok(Row {
+        path: Path::read(alloc, path)?,
+        attrs: Attrs::new(alloc),
+    })
+}
+
+fn two_rows(alloc: Global) -> Result<Rows, Fail> {
+    Ok(Items::from_vec(vec![in alloc; row(alloc, "a/é.txt")?, row(alloc, "b\tc\\d\r\n.csv")?]?))
+}
+
+fn notice(alloc: Global) -> Result<Notice, Fail> {
+    Ok(Notice {
+        from: 8,
+        to: 11,
+        added: two_rows(alloc)?,
+        changed: Items::from_vec(vec![in alloc; row(alloc, "k")?]?),
+        removed: Items::from_vec(vec![in alloc; Path::read(alloc, "x\\y")?]?),
+    })
+}
+
+fn create(alloc: Global) -> Event {
+    let batch = Batch {
+        first: None,
+        progress: None,
+        update: None,
+        ms: None,
+    };
+    let spec = Spec {
+        scope: Path::root(alloc),
+        name: None,
+        batch,
+    };
+    Event::Create {
+        client: 7,
+        number: 0,
+        spec,
+    }
+}
+
+// Each event, and each reply to one that is no query's.
+#[test]
+fn writes_events(rt: HostRuntime) -> Result<(), Fail> {
+    let alloc = rt.alloc();
+    let draw = Event::Draw {
+        path: Path::read(alloc, "docs//a b\t.txt")?,
+    };
+    let commit = Event::Commit {
+        ticket: 4,
+        change: Change::Remove,
+    };
+    let close = Event::Close { ticket: 5 };
+    let vacuum = Event::Vacuum { client: 255 };
+    let create = create(alloc);
+    let (client, number, now_ms) = (1, 2, 3);
+    let gather = Event::Gather {
+        client,
+        number,
+        now_ms,
+    };
+    let disable = Event::Disable { client, number };
+    let enable = Event::Enable {
+        client,
+        number,
+        now_ms,
+    };
+    let stop = Event::Stop { client, number };
+    let rows = [
+        (&draw, Reply::Ticket(4), "30 ticket 4 docs/a b\\t.txt\n"),
+        (
+            &draw,
+            Reply::TicketsSpent,
+            "30 tickets-spent docs/a b\\t.txt\n",
+        ),
+        (&commit, Reply::Committed(17), "30 committed 4 17\n"),
+        (&commit, Reply::Superseded(9), "30 superseded 4 9\n"),
+        (&commit, Reply::StoreFull, "30 store-full 4\n"),
+        (&commit, Reply::NoTicket, "30 no-ticket 4\n"),
+        (&close, Reply::Closed, "30 closed 5\n"),
+        (&close, Reply::NoTicket, "30 no-ticket 5\n"),
+        (&vacuum, Reply::Vacuumed, "30 c255 vacuumed\n"),
+        (&create, Reply::Created(9), "30 c7 q0 created 9\n"),
+        (&gather, Reply::NoQuery, "30 c1 q2 no-query\n"),
+        (&disable, Reply::TooDeep, "30 c1 q2 too-deep\n"),
+        (&enable, Reply::Resumed, "30 c1 q2 resumed\n"),
+        (&stop, Reply::Stopped, "30 c1 q2 stopped\n"),
+    ];
+    for (event, reply, want) in &rows {
+        assert_eq!(rt; entry_text(alloc, 30, event, reply)?.as_str(), *want);
+    }
+    Ok(())
+}
+
+// Each reply to a query's event.
+#[test]
+fn writes_replies(rt: HostRuntime) -> Result<(), Fail> {
+    let alloc = rt.alloc();
+    let event = Event::Poll {
+        client: 0,
+        number: 4_294_967_295,
+        now_ms: 12,
+    };
+    let rows = [
+        (Reply::Created(0), "created 0\n"),
+        (Reply::Taken, "taken\n"),
+        (Reply::TooMany, "too-many\n"),
+        (Reply::AlreadyFinished(6), "already-finished 6\n"),
+        (Reply::NotFinished, "not-finished\n"),
+        (Reply::Held(2), "held 2\n"),
+        (Reply::Disabled(3), "disabled 3\n"),
+        (Reply::TooDeep, "too-deep\n"),
+        (Reply::StillDisabled(1), "still-disabled 1\n"),
+        (Reply::Resumed, "resumed\n"),
+        (Reply::NotDisabled, "not-disabled\n"),
+        (Reply::NotYet(10), "not-yet 10\n"),
+        (Reply::Stopped, "stopped\n"),
+        (Reply::NoQuery, "no-query\n"),
+    ];
+    for (reply, want) in &rows {
+        let text = entry_text(alloc, 1, &event, reply)?;
+        assert_eq!(rt; text.strip_prefix("1 c0 q4294967295 "), Some(*want));
+    }
+    Ok(())
+}
+
+// The replies that have paths.
+#[test]
+fn writes_paths(rt: HostRuntime) -> Result<(), Fail> {
+    let alloc = rt.alloc();
+    let hits = two_rows(alloc)?;
+    let last_hits = two_rows(alloc)?;
+    let notice = notice(alloc)?;
+    let event = Event::Stop {
+        client: 1,
+        number: 2,
+    };
+    let part = Part { hits, last: false };
+    let last_part = Part {
+        hits: last_hits,
+        last: true,
+    };
+    let rows = [
+        (
+            Reply::Progress(part),
+            "3 c1 q2 progress 2\n  a/é.txt\n  b\\tc\\\\d\\r\\n.csv\n",
+        ),
+        (
+            Reply::Finished(last_part, 6),
+            "3 c1 q2 finished 2 6\n  a/é.txt\n  b\\tc\\\\d\\r\\n.csv\n",
+        ),
+        (
+            Reply::Notice(notice),
+            "3 c1 q2 notice 8 11\n+ a/é.txt\n+ b\\tc\\\\d\\r\\n.csv\n~ k\n- x\\\\y\n",
+        ),
+    ];
+    for (reply, want) in &rows {
+        assert_eq!(rt; entry_text(alloc, 3, &event, reply)?.as_str(), *want);
+    }
+    Ok(())
+}
+
+// What is held, and a path alone.
+#[test]
+fn writes_held(rt: HostRuntime) -> Result<(), Fail> {
+    let alloc = rt.alloc();
+    let rows = two_rows(alloc)?;
+    let mut text = String::new(alloc);
+    push_held(&mut text, 1, 2, 3, rows.as_slice())?;
+    push_unheld(&mut text, 4, 5)?;
+    let want = "c1 q2 holds 2 3\n  a/é.txt\n  b\\tc\\\\d\\r\\n.csv\nc4 q5 holds nothing\n";
+    assert_eq!(rt; text.as_str(), want);
+    let path = Path::read(alloc, "\\t\t")?;
+    assert_eq!(rt; escaped(alloc, &path)?.as_str(), "\\\\t\\t");
+    Ok(())
+}
