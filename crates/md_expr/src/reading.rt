@@ -35,5 +35,4 @@ pub fn read(alloc: Global, text: &str) -> Result<Expr, ReadError>
 #[tactic(auto, using(crate::proofs::Readings::readings_agree))]
 pub fn one_reading(text: &str)
     ensures { HasOneReading (chars text.now) }
-{
-}
+{}
