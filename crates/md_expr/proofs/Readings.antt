@@ -1,9 +1,8 @@
 -- A text has one reading.
-use Rattle.std.proofs.Common.{◌≡◌, ℕ, List, sym, ap, ◌∙◌, subst}
+use Rattle.std.proofs.Common.{◌≡◌, ℕ, List, subst}
 use Rattle.md_expr_tree.specs.declared.tree.Expr.{Expr}
 use Rattle.md_expr_tree.specs.declared.token.Token.{Token}
 use Rattle.md_expr_tree.specs.Grammar.{IsExpression, groups}
-use Rattle.md_expr_tree.specs.Reads.{Reads}
 use Rattle.md_expr_lex.proofs.Derive.{one_lexing}
 use Rattle.md_expr_parse.proofs.Exact.{one_reading, one_depth}
 use Rattle.md_expr.specs.Answer.{HasOneReading}

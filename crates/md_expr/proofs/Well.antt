@@ -1,5 +1,5 @@
 -- What reads as text is well made.
-use Rattle.std.proofs.Common.{◌≡◌, ◌≤◌, ◌<◌, ℕ, suc, Bool, true, false, ◌&&◌, nat_le, List, [], ◌∷◌, ◌++◌, length, map, refl, sym, ap, ◌∙◌, arith}
+use Rattle.std.proofs.Common.{◌≡◌, ◌<◌, ℕ, Bool, true, false, ◌&&◌, nat_le, List, [], ◌∷◌, length, map, refl, sym, ap, ◌∙◌, arith}
 use Rattle.std.specs.List.{list_all}
 use Rattle.std.proofs.lemmas.Bool.{le-leb}
 use Rattle.std.proofs.lemmas.List.{length-map}
@@ -12,7 +12,7 @@ use Rattle.md_expr_tree.specs.declared.tree.Expr.TheOpen.{Expr-F}
 use Rattle.md_expr_tree.specs.declared.tree.Expr.TheFolds.{fold-Expr, fold-roll-Expr}
 use Rattle.md_expr_tree.specs.declared.token.Token.{Token}
 use Rattle.md_expr_tree.specs.WellMade.{is_well_made_test, is_chain, well_made_step, is_well_made}
-use Rattle.md_expr_tree.specs.Grammar.{IsBound, number, time, IsComparison, compare, present, range, words, bound, all_of, any_of, IsUnit, comparison, group, not_group, IsAll, last_unit, and, IsAny, last_all, or, IsExpression, expression}
+use Rattle.md_expr_tree.specs.Grammar.{number, time, IsComparison, compare, present, range, words, bound, all_of, any_of, IsUnit, comparison, group, not_group, IsAll, last_unit, and, IsAny, last_all, or, IsExpression, expression}
 use Rattle.md_expr_tree.specs.Reads.{Reads}
 
 well-Test : (t : Test) → is_well_made (expr.Test t) ≡ is_well_made_test t

@@ -5,9 +5,6 @@ mod reading;
 #[cfg(test)]
 mod tests;
 
-
-
-
 pub use md_expr_parse::{MOST_COMPARISONS, MOST_GROUPS, ReadError};
 pub use md_expr_tree::{Expr, Literal, Op, Subject, Test};
 pub use reading::{MOST_BYTES, one_reading, read};

@@ -19,10 +19,14 @@ fn answer(alloc: Global, text: &str) -> &'static str {
 /// The number that the text compares with, in parts of 10^9.
 fn number(alloc: Global, text: &str) -> Option<i128> {
     match read(alloc, text) {
-        Ok(Expr::Test(Test::Compare {
-            literal: Literal::Number(n),
-            ..
-        })) => Some(n),
+        Ok(
+            Expr::Test(
+                Test::Compare {
+                    literal: Literal::Number(n),
+                    ..
+                },
+            ),
+        ) => Some(n),
         _ => None,
     }
 }
@@ -30,10 +34,14 @@ fn number(alloc: Global, text: &str) -> Option<i128> {
 /// The form of time that the text compares with.
 fn form(alloc: Global, text: &str) -> Option<Form> {
     match read(alloc, text) {
-        Ok(Expr::Test(Test::Compare {
-            literal: Literal::Time(form),
-            ..
-        })) => Some(form),
+        Ok(
+            Expr::Test(
+                Test::Compare {
+                    literal: Literal::Time(form),
+                    ..
+                },
+            ),
+        ) => Some(form),
         _ => None,
     }
 }
@@ -106,7 +114,10 @@ fn texts(rt: HostRuntime) -> Result<(), Fail> {
     assert_eq!(rt; number(alloc, "((a == 01.50))"), Some(1_500_000_000));
     assert_eq!(rt; number(alloc, "a == -0.0"), Some(0));
     assert_eq!(rt; number(alloc, "* < -1.000000001"), Some(-1_000_000_001));
-    assert_eq!(rt; form(alloc, "a == $time.this_week(+2)"), Some(Form::Week(2)));
+    assert_eq!(rt;
+        form(alloc, "a == $time.this_week(+2)"),
+        Some(Form::Week(2))
+    );
     assert_eq!(rt; form(alloc, "a == $time.yesterday"), Some(Form::Day(-1)));
     assert_eq!(rt; form(alloc, "a == $time.today"), Some(Form::Day(0)));
     Ok(())

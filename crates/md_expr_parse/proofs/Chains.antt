@@ -1,5 +1,5 @@
 -- Chains of one member, and of others.
-use Rattle.std.proofs.Common.{◌≡◌, ◌≢◌, ℕ, suc, ◌+◌, List, [], ◌∷◌, ◌++◌, length, refl, sym, ap, ◌∙◌, arith, length-append, add-one}
+use Rattle.std.proofs.Common.{◌≡◌, ◌≢◌, List, [], ◌∷◌, ◌++◌, length, refl, sym, ap, arith, length-append}
 use Rattle.md_expr_tree.specs.declared.tree.Expr.{Expr}
 use Rattle.md_expr_tree.specs.declared.tree.Expr.TheVariants as expr
 use Rattle.md_expr_tree.specs.Grammar.{all_of, any_of}

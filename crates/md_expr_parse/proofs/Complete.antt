@@ -1,18 +1,16 @@
 -- What the grammar takes, the machine reads.
-use Rattle.std.proofs.Common.{◌≡◌, ℕ, zero, suc, Bool, true, false, List, [], ◌∷◌, ◌++◌, Option, Some, None, refl, sym, ap, ◌∙◌, subst, append_assoc, append-nil}
-use Rattle.std.specs.Prelude.{codes}
+use Rattle.std.proofs.Common.{◌≡◌, Bool, true, false, List, [], ◌∷◌, ◌++◌, Option, Some, None, refl, sym, ap, ◌∙◌, append_assoc, append-nil}
 use Rattle.std.specs.Option.{option_map, option_and_then}
 use Rattle.md_expr_tree.specs.declared.tree.Expr.{Expr}
-use Rattle.md_expr_tree.specs.declared.tree.Expr.TheVariants as expr
 use Rattle.md_expr_tree.specs.declared.tree.Test.{Test}
 use Rattle.md_expr_tree.specs.declared.token.Token.{Token}
 use Rattle.md_expr_tree.specs.declared.token.Token.TheVariants as token
 use Rattle.md_expr_tree.specs.declared.token.Item.{Item}
 use Rattle.md_expr_tree.specs.declared.token.Item.TheVariants as item
-use Rattle.md_expr_tree.specs.Grammar.{IsSubject, name, star, IsEquality, equal, not_equal, IsBound, number, time, words, bound, IsComparison, compare, present, range, all_of, any_of, IsUnit, comparison, group as in_group, not_group, IsAll, last_unit, and, IsAny, last_all, or, IsExpression, expression}
+use Rattle.md_expr_tree.specs.Grammar.{name, star, equal, not_equal, number, time, words, bound, IsComparison, compare, present, range, all_of, any_of, IsUnit, comparison, group as in_group, not_group, IsAll, last_unit, and, IsAny, last_all, or, IsExpression, expression}
 use Rattle.md_expr_parse.specs.declared.build.Level.{Level}
 use Rattle.md_expr_parse.specs.Group.{group}
-use Rattle.md_expr_parse.specs.Machine.{closed, signed, run}
+use Rattle.md_expr_parse.specs.Machine.{signed, run}
 
 -- what the machine makes of tokens
 abbrev pub runs : Bool → List Level → List Expr → List Expr → List Token → Option Expr

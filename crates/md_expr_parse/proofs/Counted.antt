@@ -1,6 +1,6 @@
 -- An expression's groups and comparisons, counted on its items.
-use Rattle.std.proofs.Common.{◌≡◌, ◌≤◌, ℕ, zero, suc, ◌+◌, ◌-◌, max, sum, map, List, [], ◌∷◌, ◌++◌, Option, Some, None, refl, sym, ap, ◌∙◌, subst, arith, append_assoc}
-use Rattle.std.specs.Option.{option_map, option_and_then}
+use Rattle.std.proofs.Common.{◌≡◌, ◌≤◌, ℕ, suc, ◌+◌, ◌-◌, max, List, [], ◌∷◌, ◌++◌, Option, Some, None, refl, sym, ap, ◌∙◌, subst, arith, append_assoc}
+use Rattle.std.specs.Option.{option_map}
 use Rattle.md_expr_tree.specs.declared.tree.Expr.{Expr}
 use Rattle.md_expr_tree.specs.declared.tree.Expr.TheVariants as expr
 use Rattle.md_expr_tree.specs.declared.token.Token.{Token}
@@ -11,8 +11,8 @@ use Rattle.md_expr_tree.specs.declared.tree.Test.{Test}
 use Rattle.md_expr_tree.specs.declared.tree.Expr.TheVariants.{rolls-Test, rolls-Not, rolls-All, rolls-Any}
 use Rattle.md_expr_tree.specs.declared.tree.Expr.TheOpen.{Expr-F}
 use Rattle.md_expr_tree.specs.declared.tree.Expr.TheFolds.{fold-Expr, fold-roll-Expr}
-use Rattle.md_expr_tree.specs.Counts.{sum_of, comparisons_step, comparisons, comparisons_of_all}
-use Rattle.md_expr_tree.specs.Grammar.{all_of, any_of, IsUnit, comparison, group as in_group, not_group, IsAll, last_unit, and, IsAny, last_all, or, IsExpression, expression, unit_groups, all_groups, any_groups, groups}
+use Rattle.md_expr_tree.specs.Counts.{comparisons_step, comparisons, comparisons_of_all}
+use Rattle.md_expr_tree.specs.Grammar.{all_of, any_of, IsUnit, comparison, group as in_group, not_group, IsAll, last_unit, and, IsAny, last_all, or, unit_groups, all_groups, any_groups}
 use Rattle.md_expr_parse.specs.Group.{group}
 use Rattle.md_expr_parse.specs.Survey.{deepest, comparisons_in}
 use Rattle.md_expr_parse.proofs.Depth.{at_least}

@@ -1,5 +1,5 @@
 -- How deep items are.
-use Rattle.std.proofs.Common.{◌≡◌, ◌≤◌, ℕ, zero, suc, ◌+◌, ◌-◌, max, List, [], ◌∷◌, arith, add-one}
+use Rattle.std.proofs.Common.{◌≡◌, ◌≤◌, ℕ, suc, ◌+◌, ◌-◌, max, List, [], ◌∷◌, arith, add-one}
 use Rattle.md_expr_tree.specs.declared.token.Item.{Item}
 use Rattle.md_expr_tree.specs.declared.token.Item.TheVariants as item
 use Rattle.md_expr_parse.specs.Survey.{deepest}

@@ -1,19 +1,19 @@
 -- The machine reads exactly the grammar.
-use Rattle.std.proofs.Common.{◌≡◌, ℕ, zero, suc, ◌+◌, ◌-◌, max, Bool, true, false, List, [], ◌∷◌, ◌++◌, length, Option, Some, None, refl, sym, ap, ◌∙◌, subst, arith, append-nil}
+use Rattle.std.proofs.Common.{◌≡◌, ◌+◌, max, Bool, true, false, List, [], ◌∷◌, ◌++◌, length, Option, Some, None, refl, sym, ap, ◌∙◌, arith, append-nil}
 use Rattle.std.specs.Prelude.{is_some}
-use Rattle.std.specs.Option.{option_map, option_and_then}
+use Rattle.std.specs.Option.{option_and_then}
 use Rattle.md_expr_tree.specs.declared.tree.Expr.{Expr}
 use Rattle.md_expr_tree.specs.declared.token.Token.{Token}
 use Rattle.md_expr_tree.specs.declared.token.Item.{Item}
 use Rattle.md_expr_tree.specs.declared.token.Item.TheVariants as item
 use Rattle.md_expr_tree.specs.Counts.{comparisons, comparisons_of_all}
-use Rattle.md_expr_tree.specs.Grammar.{any_of, IsAny, IsExpression, expression, any_groups, groups}
+use Rattle.md_expr_tree.specs.Grammar.{IsExpression, expression, any_groups, groups}
 use Rattle.md_expr_parse.specs.declared.build.Level.{Level}
 use Rattle.md_expr_parse.specs.Group.{group}
 use Rattle.md_expr_parse.specs.Machine.{run}
 use Rattle.md_expr_parse.specs.Survey.{accepts, deepest, comparisons_in}
-use Rattle.md_expr_parse.proofs.Complete.{runs, expression_runs}
-use Rattle.md_expr_parse.proofs.Counted.{Counts, Spans, any_counts, comparisons_any_of}
+use Rattle.md_expr_parse.proofs.Complete.{expression_runs}
+use Rattle.md_expr_parse.proofs.Counted.{any_counts, comparisons_any_of}
 use Rattle.md_expr_parse.proofs.Sound.{read_sound}
 
 accepted : (is : List Item) (ready : Bool) (outer : List Level) (ors ands : List Expr) → accepts ready (length outer) is ≡ is_some (run ready outer ors ands is)

@@ -5,7 +5,7 @@ use Rattle.md_expr_tree.specs.declared.tree.Expr.{Expr}
 use Rattle.md_expr_tree.specs.declared.token.Token.{Token}
 use Rattle.md_expr_tree.specs.declared.token.Item.{Item}
 use Rattle.md_expr_parse.specs.declared.build.Builder.{Builder}
-use Rattle.md_expr_parse.specs.Group.{Found, Takes, item_at, group}
+use Rattle.md_expr_parse.specs.Group.{Takes, item_at, group}
 use Rattle.md_expr_parse.specs.Resume.{resume}
 
 abbrev Steps : Builder → Item → Option Builder → Type 0

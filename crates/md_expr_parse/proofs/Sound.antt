@@ -1,11 +1,10 @@
 -- What the machine reads, the grammar takes.
-use Rattle.std.proofs.Common.{◌≡◌, ℕ, zero, suc, Bool, true, false, ◌&&◌, cond, List, [], ◌∷◌, ◌++◌, drop, Option, Some, None, refl, sym, ap, ◌∙◌, subst, append_assoc, append-nil}
+use Rattle.std.proofs.Common.{◌≡◌, ℕ, zero, suc, Bool, true, false, ◌&&◌, cond, List, [], ◌∷◌, ◌++◌, drop, Option, Some, None, refl, sym, ap, subst, append_assoc, append-nil}
 use Rattle.std.specs.Prelude.{codes}
 use Rattle.std.specs.Option.{option_map, option_and_then}
 use Rattle.std.specs.Str.{bytes_eq}
 use Rattle.std.specs.Cmp.Lexicographic.{same_text}
 use Rattle.md_expr_tree.specs.declared.tree.Expr.{Expr}
-use Rattle.md_expr_tree.specs.declared.tree.Expr.TheVariants as expr
 use Rattle.md_expr_tree.specs.declared.tree.Op.{Op}
 use Rattle.md_expr_tree.specs.declared.tree.Op.TheVariants as op
 use Rattle.md_expr_tree.specs.declared.tree.Subject.{Subject}
@@ -19,9 +18,9 @@ use Rattle.md_expr_tree.specs.declared.token.Token.TheVariants as token
 use Rattle.md_expr_tree.specs.declared.token.Item.{Item}
 use Rattle.md_expr_tree.specs.declared.token.Item.TheVariants as item
 use Rattle.md_expr_tree.specs.WellMade.{is_bound}
-use Rattle.md_expr_tree.specs.Grammar.{IsSubject, name, star, IsEquality, equal, not_equal, IsBound, number, time, IsValue, words, bound, IsComparison, compare, present, range, all_of, any_of, IsUnit, comparison, group as in_group, not_group, IsAll, last_unit, and, IsAny, last_all, or, IsExpression, expression}
+use Rattle.md_expr_tree.specs.Grammar.{IsSubject, name, star, equal, not_equal, IsBound, number, time, IsValue, words, bound, IsComparison, compare, present, range, all_of, any_of, IsUnit, comparison, group as in_group, not_group, IsAll, last_unit, and, IsAny, last_all, or, IsExpression, expression}
 use Rattle.md_expr_parse.specs.declared.build.Level.{Level}
-use Rattle.md_expr_parse.specs.Group.{Found, is_equality, is_value, value_at, comparison_at, end_at, greatest_at, comma_at, least_at, range_at, named_at, not_at, item_at, group}
+use Rattle.md_expr_parse.specs.Group.{Found, is_value, value_at, comparison_at, end_at, range_at, named_at, not_at, item_at, group}
 use Rattle.md_expr_parse.specs.Machine.{closed, signed, run}
 
 -- the tokens of an item

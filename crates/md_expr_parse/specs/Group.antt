@@ -8,7 +8,6 @@ use Rattle.md_expr_tree.specs.declared.tree.Subject.{Subject}
 use Rattle.md_expr_tree.specs.declared.tree.Subject.TheVariants as subject
 use Rattle.md_expr_tree.specs.declared.tree.Literal.{Literal}
 use Rattle.md_expr_tree.specs.declared.tree.Literal.TheVariants as literal
-use Rattle.md_expr_tree.specs.declared.tree.Test.{Test}
 use Rattle.md_expr_tree.specs.declared.tree.Test.TheVariants as test
 use Rattle.md_expr_tree.specs.declared.token.Token.{Token}
 use Rattle.md_expr_tree.specs.declared.token.Token.TheVariants as token

@@ -1,5 +1,5 @@
 -- What reading tokens answers, within 64 open groups and 4,096 comparisons.
-use Rattle.std.specs.Prelude.{ℕ, ◌<◌, ◌≤◌, List, Result, Ok, Err}
+use Rattle.std.specs.Prelude.{◌<◌, ◌≤◌, List, Result, Ok, Err}
 use Rattle.md_expr_tree.specs.declared.tree.Expr.{Expr}
 use Rattle.md_expr_tree.specs.declared.token.Token.{Token}
 use Rattle.md_expr_tree.specs.Counts.{comparisons}

@@ -1,4 +1,4 @@
-use Rattle.std.proofs.Common.{◌≡◌, [], false, ap, ◌∙◌}
+use Rattle.std.proofs.Common.{[], false, ap, ◌∙◌}
 use Rattle.md_expr_parse.specs.Machine.{run}
 use Rattle.md_expr_parse.proofs.Loops.{stepped, stuck}
 use Rattle.md_expr_parse.proofs.read.expression.Goals as goal

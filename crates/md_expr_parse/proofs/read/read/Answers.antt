@@ -8,7 +8,7 @@ use Rattle.md_expr_parse.specs.declared.survey.Place.{Place}
 use Rattle.md_expr_parse.specs.Group.{group}
 use Rattle.md_expr_parse.specs.Machine.{run}
 use Rattle.md_expr_parse.specs.Survey.{accepts, deepest, comparisons_in}
-use Rattle.md_expr_parse.proofs.Exact.{Unreadable, without_items, not_accepted, without_expression, Found, found, some_found}
+use Rattle.md_expr_parse.proofs.Exact.{without_items, not_accepted, without_expression, found, some_found}
 use Rattle.md_expr_parse.proofs.read.read.Goals as goal
 
 pub returns-in_default : goal.returns-in_default

@@ -1,4 +1,4 @@
-use Rattle.std.proofs.Common.{◌≡◌, ◌≤◌, ◌+◌, ℕ, Bool, List, max, drop, false}
+use Rattle.std.proofs.Common.{◌≡◌, ◌≤◌, ◌+◌, ℕ, List, max, drop, false}
 use Rattle.md_expr_tree.specs.declared.token.Item.{Item}
 use Rattle.md_expr_parse.specs.declared.survey.Place.{Place}
 use Rattle.md_expr_parse.specs.Survey.{accepts, deepest, comparisons_in}
