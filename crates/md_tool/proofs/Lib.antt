@@ -1,0 +1,5 @@
+mod Causes
+mod Ending
+mod Scripts
+mod Telling
+mod Words

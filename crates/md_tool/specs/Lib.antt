@@ -1,0 +1,5 @@
+pub mod PlainText
+pub mod Events
+pub mod Telling
+pub mod Reports
+pub mod Codes

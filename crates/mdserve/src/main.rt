@@ -1,0 +1,28 @@
+//! The metadata server's program.
+#![tactic(auto)]
+
+use md_source::{Reading, Writing};
+use md_tool::{Status, run};
+use std::alloc::Global;
+use std::process::ExitCode;
+use std::rt::Env;
+use std::{env, io};
+
+// The words after the program's name.
+fn words_of(rt: &(impl Env + AllocGlobal), alloc: Global) -> io::Result<Vec<String>> {
+    let mut words = Vec::new(alloc);
+    for word in env::args(rt)?.skip(1) {
+        words.push(word)?;
+    }
+    Ok(words)
+}
+
+fn main(rt: HostRuntime) -> ExitCode {
+    let alloc = rt.alloc();
+    let words = words_of(&rt, alloc).unwrap_or(Vec::new(alloc));
+    let mut script = Reading::new(rt.stdin());
+    let mut out = Writing::new(rt.stdout());
+    let mut err = Writing::new(rt.stderr());
+    let outcome = run(alloc, &words, &mut script, &mut out, &mut err);
+    ExitCode::from(outcome.status.code())
+}
