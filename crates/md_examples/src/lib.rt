@@ -1,0 +1,9 @@
+//! The worked examples, run over the top call.
+#![tactic(auto)]
+
+#[cfg(test)]
+mod faults;
+#[cfg(test)]
+mod runs;
+#[cfg(test)]
+mod scripts;
