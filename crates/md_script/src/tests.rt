@@ -74,7 +74,7 @@ fn reads_lines(rt: HostRuntime) -> Result<(), Fail> {
         (b"remove a b", "bad 1"),
         (b"remove a ", "bad 1"),
         (b"remove .", "bad 1"),
-        (b"remove a\\sb\r", "bad 1"),
+        (b"remove a\\sb\r", "1 remove a b\r\n"),
         (b"c255 gather 4294967295", "1 255 gather 4294967295\n"),
         (b"c00 poll 007", "1 0 poll 7\n"),
         (b"c256 poll 1", "bad 1"),
