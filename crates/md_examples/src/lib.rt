@@ -7,3 +7,5 @@ mod faults;
 mod runs;
 #[cfg(test)]
 mod scripts;
+#[cfg(test)]
+mod servers;
