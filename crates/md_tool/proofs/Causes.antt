@@ -27,6 +27,7 @@ verdict_front left =
   where
     within : (most n : ℕ) → n ≤ most → n ≤ most + 1
     within most n le = omega (arith, le)
+
     long : (most : ℕ) (xs : List ℕ) → most < length xs → most < length (take (most + 1) xs)
     long most xs lt = omega (arith, length-take-le (most + 1) xs (omega (arith, lt)))
 

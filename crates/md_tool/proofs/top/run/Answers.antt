@@ -12,8 +12,8 @@ pub returns-in-Err : goal.returns-in-Err
 returns-in-Err g c =
     let words = map (λ word. string_bytes word) c.args.words.now in
     let end : Ends words (g.S.Source.left c.args.script.now) (g.S.Source.left c.asked.new.script) (g.S.Source.faults c.args.script.now) (g.S.Source.faults c.asked.new.script)
-        (g.E.Sink.taken c.args.err.now) (g.E.Sink.taken c.args.err.now) (g.E.Sink.faults c.args.err.now) (g.E.Sink.faults c.args.err.now)
-        (g.K.Sink.taken c.args.out.now) (g.K.Sink.taken c.args.out.now) (g.K.Sink.faults c.args.out.now) (g.K.Sink.faults c.args.out.now) status.Memory =
+    (g.E.Sink.taken c.args.err.now) (g.E.Sink.taken c.args.err.now) (g.E.Sink.faults c.args.err.now) (g.E.Sink.faults c.args.err.now)
+    (g.K.Sink.taken c.args.out.now) (g.K.Sink.taken c.args.out.now) (g.K.Sink.faults c.args.out.now) (g.K.Sink.faults c.args.out.now) status.Memory =
     no_memory (record { taken = refl; kept = refl }) (record { taken = refl; kept = refl }) in
     record {
       ends = end;
@@ -31,8 +31,8 @@ returns g c =
     let err_is = c.as_str.ensures.value ∙ ap (λ (r : Report). r.err) c.report.view_is in
     let out_is = c.as_str-2.ensures.value ∙ ap (λ (r : Report). r.out) c.report.view_is in
     let end : Ends words (g.S.Source.left c.args.script.now) (g.S.Source.left c.asked.new.script) (g.S.Source.faults c.args.script.now) (g.S.Source.faults c.asked.new.script)
-        (g.E.Sink.taken c.args.err.now) (g.E.Sink.taken c.put_texts.new.err) (g.E.Sink.faults c.args.err.now) (g.E.Sink.faults c.put_texts.new.err)
-        (g.K.Sink.taken c.args.out.now) (g.K.Sink.taken c.put_texts.new.out) (g.K.Sink.faults c.args.out.now) (g.K.Sink.faults c.put_texts.new.out) c.match-put_texts.status =
+    (g.E.Sink.taken c.args.err.now) (g.E.Sink.taken c.put_texts.new.err) (g.E.Sink.faults c.args.err.now) (g.E.Sink.faults c.put_texts.new.err)
+    (g.K.Sink.taken c.args.out.now) (g.K.Sink.taken c.put_texts.new.out) (g.K.Sink.faults c.args.out.now) (g.K.Sink.faults c.put_texts.new.out) c.match-put_texts.status =
     elim c.match-put_texts.branch [
       | in-Ok-put_texts w ↦ subst (Ends words _ _ _ _ _ _ _ _ _ _ _ _) (sym (ap (λ (r : Report). r.status) c.report.view_is) ∙ sym w.status-is) (ends_printed words _ _ _ _ _ _ _ _ _ _ _ _ report c.in-Ok.ensures _ _ err_is out_is w.in-Ok-put_texts.ensures.whole_err w.in-Ok-put_texts.ensures.whole_out)
       | in-Err-Failed w ↦ subst (Ends words _ _ _ _ _ _ _ _ _ _ _ _) (sym w.status-is) (ends_stopped words _ _ _ _ _ _ _ _ _ _ _ _ report c.in-Ok.ensures _ _ err_is out_is (w.in-Err-Failed.ensures.part (let is = w.in-Err-Failed.field-0-is in cc (is))))
