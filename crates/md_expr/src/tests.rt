@@ -31,18 +31,24 @@ fn number(alloc: Global, text: &str) -> Option<i128> {
     }
 }
 
+fn form_in(expr: &Expr) -> Option<Form> {
+    match expr {
+        Expr::Test(test) => match test {
+            Test::Compare { literal, .. } => match literal {
+                Literal::Time(form) => Some(*form),
+                _ => None,
+            },
+            _ => None,
+        },
+        _ => None,
+    }
+}
+
 /// The form of time that the text compares with.
 fn form(alloc: Global, text: &str) -> Option<Form> {
     match read(alloc, text) {
-        Ok(
-            Expr::Test(
-                Test::Compare {
-                    literal: Literal::Time(form),
-                    ..
-                },
-            ),
-        ) => Some(form),
-        _ => None,
+        Ok(expr) => form_in(&expr),
+        Err(_) => None,
     }
 }
 
