@@ -1,0 +1,4 @@
+pub mod Meets
+pub mod Satisfies
+pub mod Forms
+pub mod Conditions
