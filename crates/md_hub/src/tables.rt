@@ -1,222 +1,170 @@
-// Rows and tables: which rows a query keeps, and how its answers on two tables differ.
-ghost use Rattle.std.specs.Prelude.{◌≡◌, ◌++◌, ◌+◌, ◌&&◌, ◌≤◌, ◌<◌, ◌^◌, not, is_none, IfOk, OnOk, map, filter, take, drop, length};
-ghost use Rattle.std.specs.Option.{option_copied};
-ghost use Rattle.md_value.specs.Values.{is_same};
-ghost use Rattle.md_world.specs.Tables.{at, shown};
-ghost use Rattle.md_world.specs.Differences.{items_of};
-ghost use Rattle.md_machine.specs.Answers.{keeps, satisfies, answer, shown_answer, diff, notice_of};
-ghost use Rattle.md_hub.specs.Rows.{is_added, is_changed, is_removed};
+// Rows and tables: a query's hits on a table, and how two lists of hits differ.
+ghost use Rattle.std.specs.Prelude.{◌≡◌, ◌+◌, ◌≤◌, ◌<◌, ◌^◌, not, IfOk, map, filter, drop, length};
+ghost use Rattle.std.specs.Option.{option_map};
+ghost use Rattle.md_world.specs.Tables.{at, has_path, shown};
+ghost use Rattle.md_world.specs.Differences.{difference, items_of, was_other};
+ghost use Rattle.md_machine.specs.declared.Batch.{Batch};
+ghost use Rattle.md_machine.specs.Answers.{answer, notice_of};
+ghost use Rattle.md_hub.specs.Rows.{rows_of, spec_of};
 
-use md_machine::Spec;
-use md_value::{Copied, Items, Path, Text};
+use md_match::Filter;
+use md_value::{Copied, Items, Path};
 use md_world::{Notice, Row};
 use std::alloc::{AllocError, Global};
 
-/// The attribute that has a file's name.
-const FILE_NAME: &str = "kMDItemFSName";
-
-fn satisfies(name: &Option<Text>, row: &Row) -> bool
-    ensures { result ≡ satisfies name.now row.now }
+/// The rows of a table that pass the filter, in the table's order. No other function tests a row.
+#[tactic(auto, unfolding(md_machine::specs::Answers::answer), unfolding(md_machine::specs::Answers::keeps))]
+pub fn answer<'a>(
+    alloc: Global,
+    filter: &Filter,
+    table: &'a [Row],
+) -> Result<Vec<&'a Row>, AllocError>
+    ensures { IfOk result (λ hits. (batch : Batch) → rows_of hits.items ≡ answer (spec_of filter.now batch) table.now) }
 {
-    match name {
-        None => true,
-        Some(text) => row.attrs.has_text(FILE_NAME, text),
-    }
-}
-
-/// Whether a row is among a query's hits. No other function tests a row.
-#[tactic(auto, unfolding(md_machine::specs::Answers::keeps))]
-pub fn keeps(spec: &Spec, row: &Row) -> bool
-    ensures { result ≡ keeps spec.now row.now }
-{
-    row.path.inside(&spec.scope) && satisfies(&spec.name, row)
-}
-
-fn is_hit_of(spec: &Spec, row: &Row, path: &Path) -> bool
-    ensures { result ≡ (is_same row.now.path path.now && keeps spec.now row.now) }
-{
-    row.path == *path && keeps(spec, row)
-}
-
-/// The hit of a path.
-pub fn hit_at<'a>(spec: &Spec, table: &'a [Row], path: &Path) -> Option<&'a Row>
-    ensures { option_copied result ≡ at (answer spec.now table.now) path.now }
-{
+    let mut hits = Vec::new(alloc);
     for row in table {
-        if is_hit_of(spec, row, path) {
-            return Some(row);
+        if filter.test(alloc, row)? {
+            hits.push(row)?;
+        }
+    }
+    Ok(hits)
+}
+
+fn hit_at<'a>(hits: &[&'a Row], path: &Path) -> Option<&'a Row>
+    ensures { option_map (λ hit. hit.now) result ≡ at (rows_of hits.now) path.now }
+{
+    for hit in hits {
+        if hit.path == *path {
+            return Some(*hit);
         }
     }
     None
 }
 
-fn is_added(spec: &Spec, old: &[Row], row: &Row) -> bool
-    ensures { result ≡ is_added spec.now old.now row.now }
+fn is_new(old: &[&Row], row: &Row) -> bool
+    ensures { result ≡ not (has_path (rows_of old.now) row.now.path) }
 {
-    keeps(spec, row) && hit_at(spec, old, &row.path).is_none()
+    hit_at(old, &row.path).is_none()
 }
 
-fn is_changed(spec: &Spec, old: &[Row], row: &Row) -> bool
-    ensures { result ≡ is_changed spec.now old.now row.now }
+fn is_changed(old: &[&Row], row: &Row) -> bool
+    ensures { result ≡ was_other (at (rows_of old.now) row.now.path) row.now }
 {
-    keeps(spec, row)
-        && match hit_at(spec, old, &row.path) {
-            None => false,
-            Some(was) => !was.same(row),
-        }
+    match hit_at(old, &row.path) {
+        None => false,
+        Some(was) => !was.same(row),
+    }
 }
 
-fn is_removed(spec: &Spec, new: &[Row], row: &Row) -> bool
-    ensures { result ≡ is_removed spec.now new.now row.now }
-{
-    keeps(spec, row) && hit_at(spec, new, &row.path).is_none()
-}
-
-fn added(alloc: Global, spec: &Spec, old: &[Row], new: &[Row]) -> Result<Vec<Row>, AllocError>
-    ensures { IfOk result (λ rows. rows.items ≡ map shown (filter (is_added spec.now old.now) new.now)) }
+fn added(alloc: Global, old: &[&Row], new: &[&Row]) -> Result<Vec<Row>, AllocError>
+    ensures { IfOk result (λ rows. rows.items ≡ map shown (filter (λ row. not (has_path (rows_of old.now) row.path)) (rows_of new.now))) }
 {
     let mut rows = Vec::new(alloc);
-    for row in new {
-        if is_added(spec, old, row) {
-            rows.push(row.shown(alloc)?)?;
+    for hit in new {
+        if is_new(old, hit) {
+            rows.push(hit.shown(alloc)?)?;
         }
     }
     Ok(rows)
 }
 
-fn changed(alloc: Global, spec: &Spec, old: &[Row], new: &[Row]) -> Result<Vec<Row>, AllocError>
-    ensures { IfOk result (λ rows. rows.items ≡ map shown (filter (is_changed spec.now old.now) new.now)) }
+fn changed(alloc: Global, old: &[&Row], new: &[&Row]) -> Result<Vec<Row>, AllocError>
+    ensures { IfOk result (λ rows. rows.items ≡ map shown (filter (λ row. was_other (at (rows_of old.now) row.path) row) (rows_of new.now))) }
 {
     let mut rows = Vec::new(alloc);
-    for row in new {
-        if is_changed(spec, old, row) {
-            rows.push(row.shown(alloc)?)?;
+    for hit in new {
+        if is_changed(old, hit) {
+            rows.push(hit.shown(alloc)?)?;
         }
     }
     Ok(rows)
 }
 
-fn removed(alloc: Global, spec: &Spec, old: &[Row], new: &[Row]) -> Result<Vec<Path>, AllocError>
-    ensures { IfOk result (λ paths. paths.items ≡ map (λ row. row.path) (filter (is_removed spec.now new.now) old.now)) }
+fn removed(alloc: Global, old: &[&Row], new: &[&Row]) -> Result<Vec<Path>, AllocError>
+    ensures { IfOk result (λ paths. paths.items ≡ map (λ row. row.path) (filter (λ row. not (has_path (rows_of new.now) row.path)) (rows_of old.now))) }
 {
     let mut paths = Vec::new(alloc);
-    for row in old {
-        if is_removed(spec, new, row) {
-            paths.push(row.path.copy(alloc)?)?;
+    for hit in old {
+        if is_new(new, hit) {
+            paths.push(hit.path.copy(alloc)?)?;
         }
     }
     Ok(paths)
 }
 
-/// The notice of what differs between a query's answers on two tables.
-#[tactic(auto, using(crate::proofs::Hits::added_filter, crate::proofs::Hits::changed_filter, crate::proofs::Hits::removed_filter))]
+/// The notice of what differs between two lists of hits.
 pub fn notice(
     alloc: Global,
-    spec: &Spec,
-    old: &[Row],
-    new: &[Row],
+    old: &[&Row],
+    new: &[&Row],
     from: u32,
     to: u32,
 ) -> Result<Notice, AllocError>
-    ensures { IfOk result (λ notice. notice ≡ notice_of (diff spec.now old.now new.now) from to) }
+    ensures { IfOk result (λ notice. notice ≡ notice_of (difference (rows_of old.now) (rows_of new.now)) from to) }
 {
     Ok(Notice {
         from,
         to,
-        added: Items::from_vec(added(alloc, spec, old, new)?),
-        changed: Items::from_vec(changed(alloc, spec, old, new)?),
-        removed: Items::from_vec(removed(alloc, spec, old, new)?),
+        added: Items::from_vec(added(alloc, old, new)?),
+        changed: Items::from_vec(changed(alloc, old, new)?),
+        removed: Items::from_vec(removed(alloc, old, new)?),
     })
 }
 
-fn count_added(spec: &Spec, old: &[Row], new: &[Row]) -> usize
-    ensures value { result ≡ length (filter (is_added spec.now old.now) new.now) }
+fn count_new(old: &[&Row], new: &[&Row]) -> usize
+    ensures value { result ≡ length (filter (λ row. not (has_path (rows_of old.now) row.path)) (rows_of new.now)) }
     ensures bound { result ≤ length new.now }
 {
-    new.iter().filter(|row| is_added(spec, old, row)).count()
+    let mut count = 0;
+    for hit in new {
+        if is_new(old, hit) {
+            count += 1;
+        }
+    }
+    count
 }
 
-fn count_changed(spec: &Spec, old: &[Row], new: &[Row]) -> usize
-    ensures value { result ≡ length (filter (is_changed spec.now old.now) new.now) }
+fn count_changed(old: &[&Row], new: &[&Row]) -> usize
+    ensures value { result ≡ length (filter (λ row. was_other (at (rows_of old.now) row.path) row) (rows_of new.now)) }
     ensures bound { result ≤ length new.now }
 {
-    new.iter().filter(|row| is_changed(spec, old, row)).count()
-}
-
-fn count_removed(spec: &Spec, old: &[Row], new: &[Row]) -> usize
-    ensures value { result ≡ length (filter (is_removed spec.now new.now) old.now) }
-    ensures bound { result ≤ length old.now }
-{
-    old.iter().filter(|row| is_removed(spec, new, row)).count()
+    let mut count = 0;
+    for hit in new {
+        if is_changed(old, hit) {
+            count += 1;
+        }
+    }
+    count
 }
 
 /// How many items that notice has. Takes no memory.
-#[tactic(auto, using(crate::proofs::Hits::items_filter))]
-pub fn count_items(spec: &Spec, old: &[Row], new: &[Row]) -> usize
-    ensures { result ≡ items_of (diff spec.now old.now new.now) }
+pub fn count_items(old: &[&Row], new: &[&Row]) -> usize
+    ensures { result ≡ items_of (difference (rows_of old.now) (rows_of new.now)) }
 {
-    count_added(spec, old, new) + count_changed(spec, old, new) + count_removed(spec, old, new)
+    count_new(old, new) + count_changed(old, new) + count_new(new, old)
 }
 
-fn count_kept(spec: &Spec, table: &[Row]) -> usize
-    ensures value { result ≡ length (filter (keeps spec.now) table.now) }
-    ensures bound { result ≤ length table.now }
+/// The hits after the first `given`.
+pub fn hits_after<'h, 'a>(hits: &'h [&'a Row], given: usize) -> &'h [&'a Row]
+    ensures rows { rows_of result.now ≡ drop given (rows_of hits.now) }
+    ensures room { 0 < length result.now → given + length result.now < 2 ^ 64 }
 {
-    table.iter().filter(|row| keeps(spec, row)).count()
+    if given <= hits.len() {
+        &hits[given..]
+    } else {
+        &[]
+    }
 }
 
-/// How many hits a query has. Takes no memory.
-#[tactic(auto, using(crate::proofs::Hits::length_shown))]
-pub fn count_hits(spec: &Spec, table: &[Row]) -> usize
-    ensures { result ≡ length (shown_answer spec.now table.now) }
-{
-    count_kept(spec, table)
-}
-
-/// The hits after the first `given`, as shown, at most `most` of them.
-#[tactic(auto, unfolding(md_machine::specs::Answers::answer))]
-pub fn hits(
-    alloc: Global,
-    spec: &Spec,
-    table: &[Row],
-    given: usize,
-    most: usize,
-) -> Result<Vec<Row>, AllocError>
-    ensures { IfOk result (λ rows. rows.items ≡ take most (drop given (shown_answer spec.now table.now))) }
+/// The hits as they are shown.
+pub fn shown(alloc: Global, hits: &[&Row]) -> Result<Vec<Row>, AllocError>
+    ensures { IfOk result (λ rows. rows.items ≡ map shown (rows_of hits.now)) }
 {
     let mut rows = Vec::new(alloc);
-    let mut seen = 0usize;
-    for row in table {
-        if keeps(spec, row) {
-            if given <= seen && rows.len() < most {
-                rows.push(row.shown(alloc)?)?;
-            }
-            seen += 1;
-        }
+    for hit in hits {
+        rows.push(hit.shown(alloc)?)?;
     }
     Ok(rows)
-}
-
-/// How many hits there are after the first `given`. Takes no memory.
-#[tactic(auto, using(crate::proofs::Hits::length_left))]
-pub fn count_after(spec: &Spec, table: &[Row], given: usize) -> usize
-    ensures value { result ≡ length (drop given (shown_answer spec.now table.now)) }
-    ensures room { 0 < result → given + result < 2 ^ 64 }
-{
-    count_hits(spec, table).saturating_sub(given)
-}
-
-/// The hits after the first `given`, as shown.
-#[tactic(auto, using(crate::proofs::Hits::take_all))]
-pub fn hits_after(
-    alloc: Global,
-    spec: &Spec,
-    table: &[Row],
-    given: usize,
-) -> Result<Vec<Row>, AllocError>
-    ensures { IfOk result (λ rows. rows.items ≡ drop given (shown_answer spec.now table.now)) }
-{
-    hits(alloc, spec, table, given, count_after(spec, table, given))
 }
 
 /// A copy of the rows.

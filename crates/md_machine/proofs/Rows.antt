@@ -1,6 +1,6 @@
 -- Small runs, whose replies are computed.
 use Rattle.std.proofs.Common.{◌≡◌, ℕ, zero, suc, drop, true, false, List, [], ◌∷◌, ◌++◌, refl, ap}
-use Rattle.std.specs.Prelude.{Option, None, Some, codes}
+use Rattle.std.specs.Prelude.{Option, None, Some, codes, pos}
 use Rattle.md_value.specs.Attrs.{Attr}
 use Rattle.md_value.specs.Values.{is_same, is_before}
 use Rattle.md_value.specs.Path.{is_inside}
@@ -15,11 +15,15 @@ use Rattle.md_machine.specs.declared.Spec.{Spec}
 use Rattle.md_machine.specs.declared.Event.{Event}
 use Rattle.md_machine.specs.declared.Event.TheVariants as event
 use Rattle.md_machine.specs.declared.Reply.TheVariants as reply
-use Rattle.md_machine.specs.Answers.{file_name, keeps, answer}
+use Rattle.md_machine.specs.Answers.{keeps, answer}
+use Rattle.md_expr_tree.specs.declared.tree.Expr.{Expr}
 use Rattle.md_machine.specs.Runs.{run, entries, told, held}
 
 abbrev standard : Limits
 standard = record { paths = 1000000; tickets = 4294967295; queries = 64; disables = 1000 }
+
+abbrev file_name : List ℕ
+file_name = codes "kMDItemFSName"
 
 -- the attributes of a text file
 abbrev file : List ℕ → List ℕ → List Attr
@@ -32,11 +36,16 @@ row name = record { path = name; attrs = (file_name, value.Text name ∷ []) ∷
 abbrev at_once : Batch
 at_once = record { first = None; progress = None; update = None; ms = None }
 
-abbrev named : List ℕ → Spec
-named name = record { scope = []; name = Some name; batch = at_once }
+-- what asks for the files that satisfy the expression
+abbrev files_by : Expr → Batch → Spec
+files_by e batch = record { expr = e; now = pos 0; offset = pos 0; scope = []; batch = batch }
 
-abbrev all_files : Spec
-all_files = record { scope = []; name = None; batch = at_once }
+-- every row satisfies the expression
+abbrev IsForAll : Expr → Type 0
+IsForAll e = (batch : Batch) (rows : List Row) → answer (files_by e batch) rows ≡ rows
+
+abbrev all_files : Expr → Spec
+all_files e = files_by e at_once
 
 abbrev a_txt : List ℕ
 a_txt = codes "a.txt"
@@ -48,45 +57,45 @@ abbrev c_txt : List ℕ
 c_txt = codes "c.txt"
 
 -- a file that is put again is reported as changed, and its text content is not shown
-abbrev first_run : List Event
-first_run =
-    event.Draw a_txt ∷ event.Commit 1 (Put (file a_txt (codes "one"))) ∷ event.Create 0 1 (named a_txt) ∷ event.Gather 0 1 0
+abbrev first_run : Expr → List Event
+first_run e =
+    event.Draw a_txt ∷ event.Commit 1 (Put (file a_txt (codes "one"))) ∷ event.Create 0 1 (all_files e) ∷ event.Gather 0 1 0
     ∷ event.Draw a_txt ∷ event.Commit 2 (Put (file a_txt (codes "two"))) ∷ event.Poll 0 1 0 ∷ []
 
-first_replies : (run standard first_run).replies
+first_replies : (e : Expr) → IsForAll e → (run standard (first_run e)).replies
     ≡ reply.Ticket 1 ∷ reply.Committed 1 ∷ reply.Created 1 ∷ reply.Finished (record { hits = row a_txt ∷ []; last = true }) 1
     ∷ reply.Ticket 2 ∷ reply.Committed 2
     ∷ reply.Notice (record { from = 1; to = 2; added = []; changed = row a_txt ∷ []; removed = [] }) ∷ []
-unfolding is_same is_before is_inside keeps answer
-first_replies = refl
+unfolding is_same is_before
+first_replies e h = simp h
 
 -- a file that is removed and put again as it was is no difference
-abbrev same_again : List Event
-same_again =
-    event.Draw a_txt ∷ event.Commit 1 (Put (file a_txt (codes "one"))) ∷ event.Create 0 1 (named a_txt) ∷ event.Gather 0 1 0
+abbrev same_again : Expr → List Event
+same_again e =
+    event.Draw a_txt ∷ event.Commit 1 (Put (file a_txt (codes "one"))) ∷ event.Create 0 1 (all_files e) ∷ event.Gather 0 1 0
     ∷ event.Draw a_txt ∷ event.Commit 2 Remove ∷ event.Draw a_txt ∷ event.Commit 3 (Put (file a_txt (codes "one"))) ∷ event.Poll 0 1 0 ∷ []
 
-same_replies : (run standard same_again).replies
+same_replies : (e : Expr) → IsForAll e → (run standard (same_again e)).replies
     ≡ reply.Ticket 1 ∷ reply.Committed 1 ∷ reply.Created 1 ∷ reply.Finished (record { hits = row a_txt ∷ []; last = true }) 1
     ∷ reply.Ticket 2 ∷ reply.Committed 2 ∷ reply.Ticket 3 ∷ reply.Committed 3 ∷ reply.NotYet 0 ∷ []
-unfolding is_same is_before is_inside keeps answer
-same_replies = refl
+unfolding is_same is_before
+same_replies e h = simp h
 
 -- the balancing enable answers a notice, also where nothing differs
-abbrev held_back : List Event
-held_back =
+abbrev held_back : Expr → List Event
+held_back e =
     event.Draw a_txt ∷ event.Commit 1 (Put (file a_txt (codes "one"))) ∷ event.Draw b_txt ∷ event.Commit 2 (Put (file b_txt (codes "one")))
-    ∷ event.Create 0 1 all_files ∷ event.Gather 0 1 0 ∷ event.Disable 0 1
+    ∷ event.Create 0 1 (all_files e) ∷ event.Gather 0 1 0 ∷ event.Disable 0 1
     ∷ event.Draw c_txt ∷ event.Commit 3 (Put (file c_txt (codes "x"))) ∷ event.Draw c_txt ∷ event.Commit 4 Remove
     ∷ event.Poll 0 1 0 ∷ event.Enable 0 1 0 ∷ []
 
-held_back_replies : (run standard held_back).replies
+held_back_replies : (e : Expr) → IsForAll e → (run standard (held_back e)).replies
     ≡ reply.Ticket 1 ∷ reply.Committed 1 ∷ reply.Ticket 2 ∷ reply.Committed 2 ∷ reply.Created 2
     ∷ reply.Finished (record { hits = row a_txt ∷ row b_txt ∷ []; last = true }) 2 ∷ reply.Disabled 1
     ∷ reply.Ticket 3 ∷ reply.Committed 3 ∷ reply.Ticket 4 ∷ reply.Committed 4 ∷ reply.Held 1
     ∷ reply.Notice (record { from = 2; to = 4; added = []; changed = []; removed = [] }) ∷ []
-unfolding is_same is_before is_inside keeps answer
-held_back_replies = refl
+unfolding is_same is_before
+held_back_replies e h = simp h
 
 -- putting a file draws a ticket and commits
 abbrev put : ℕ → List ℕ → List ℕ → List Event
@@ -102,59 +111,41 @@ abbrev last_of : List Row → Part
 last_of hits = record { hits = hits; last = true }
 
 -- disables nest
-abbrev nested : List Event
-nested =
-    event.Create 0 1 all_files ∷ event.Gather 0 1 0 ∷ event.Disable 0 1 ∷ event.Disable 0 1 ∷ event.Disable 0 1 ∷ [] ++ put 1 a_txt (codes "x")
+abbrev nested : Expr → List Event
+nested e =
+    event.Create 0 1 (all_files e) ∷ event.Gather 0 1 0 ∷ event.Disable 0 1 ∷ event.Disable 0 1 ∷ event.Disable 0 1 ∷ [] ++ put 1 a_txt (codes "x")
     ++ event.Enable 0 1 0 ∷ event.Enable 0 1 0 ∷ event.Poll 0 1 0 ∷ event.Enable 0 1 0 ∷ []
 
-nested_replies : (run standard nested).replies
+nested_replies : (e : Expr) → IsForAll e → (run standard (nested e)).replies
     ≡ reply.Created 0 ∷ reply.Finished (last_of []) 0 ∷ reply.Disabled 1 ∷ reply.Disabled 2 ∷ reply.Disabled 3 ∷ reply.Ticket 1 ∷ reply.Committed 1
     ∷ reply.StillDisabled 2 ∷ reply.StillDisabled 1 ∷ reply.Held 1
     ∷ reply.Notice (record { from = 0; to = 1; added = row a_txt ∷ []; changed = []; removed = [] }) ∷ []
-unfolding is_same is_before is_inside keeps answer
-nested_replies = refl
+unfolding is_same is_before
+nested_replies e h = simp h
 
 -- an enable with no disable, a poll with nothing new, a query that is not there
-unmatched_replies : (run standard (event.Create 0 1 all_files ∷ event.Gather 0 1 0 ∷ event.Enable 0 1 0 ∷ event.Poll 0 1 0 ∷ event.Poll 0 2 0 ∷ [])).replies
+unmatched_replies : (e : Expr) → IsForAll e → (run standard (event.Create 0 1 (all_files e) ∷ event.Gather 0 1 0 ∷ event.Enable 0 1 0 ∷ event.Poll 0 1 0 ∷ event.Poll 0 2 0 ∷ [])).replies
     ≡ reply.Created 0 ∷ reply.Finished (last_of []) 0 ∷ reply.NotDisabled ∷ reply.NotYet 0 ∷ reply.NoQuery ∷ []
-unfolding is_same is_before is_inside keeps answer
-unmatched_replies = refl
+unfolding is_same is_before
+unmatched_replies e h = simp h
 
-abbrev by_two : Spec
-by_two = record { scope = []; name = None; batch = record { first = Some 2; progress = Some 2; update = None; ms = None } }
+abbrev by_two : Expr → Spec
+by_two e = files_by e (record { first = Some 2; progress = Some 2; update = None; ms = None })
 
 abbrev d_txt : List ℕ
 d_txt = codes "d.txt"
 
 -- parts of two, the last of which is empty
-abbrev in_parts : List Event
-in_parts =
+abbrev in_parts : Expr → List Event
+in_parts e =
     put 1 a_txt (codes "x") ++ put 2 b_txt (codes "x") ++ put 3 c_txt (codes "x") ++ put 4 d_txt (codes "x")
-    ++ event.Create 0 1 by_two ∷ event.Gather 0 1 0 ∷ event.Gather 0 1 0 ∷ event.Gather 0 1 0 ∷ event.Gather 0 1 0 ∷ []
+    ++ event.Create 0 1 (by_two e) ∷ event.Gather 0 1 0 ∷ event.Gather 0 1 0 ∷ event.Gather 0 1 0 ∷ event.Gather 0 1 0 ∷ []
 
-part_replies : drop 8 (run standard in_parts).replies
+part_replies : (e : Expr) → IsForAll e → drop 8 (run standard (in_parts e)).replies
     ≡ reply.Created 4 ∷ reply.Progress (part_of (row a_txt ∷ row b_txt ∷ [])) ∷ reply.Progress (part_of (row c_txt ∷ row d_txt ∷ []))
     ∷ reply.Finished (last_of []) 4 ∷ reply.AlreadyFinished 4 ∷ []
-unfolding is_same is_before is_inside keeps answer
-part_replies = refl
-
--- gathering goes on with the base, whatever is committed meanwhile
-abbrev old_base : List Event
-old_base =
-    put 1 a_txt (codes "x") ++ put 2 b_txt (codes "x") ++ put 3 c_txt (codes "x") ++ event.Create 0 1 by_two ∷ event.Gather 0 1 0 ∷ event.Poll 0 1 0 ∷ []
-    ++ put 4 d_txt (codes "x") ++ remove 5 c_txt ++ event.Gather 0 1 0 ∷ event.Poll 0 1 0 ∷ []
-
-old_base_replies : drop 6 (run standard old_base).replies
-    ≡ reply.Created 3 ∷ reply.Progress (part_of (row a_txt ∷ row b_txt ∷ [])) ∷ reply.NotFinished
-    ∷ reply.Ticket 4 ∷ reply.Committed 4 ∷ reply.Ticket 5 ∷ reply.Committed 5 ∷ reply.Finished (last_of (row c_txt ∷ [])) 3
-    ∷ reply.Notice (record { from = 3; to = 5; added = row d_txt ∷ []; changed = []; removed = c_txt ∷ [] }) ∷ []
-unfolding is_same is_before is_inside keeps answer
-old_base_replies = refl
-
--- and what the client then holds
-old_base_held : held (told 0 1 (entries standard old_base)) ≡ row a_txt ∷ row b_txt ∷ row d_txt ∷ []
-unfolding is_same is_before is_inside keeps answer
-old_base_held = refl
+unfolding is_same is_before
+part_replies e h = simp h
 
 -- a commit with a smaller ticket than the path's last one is superseded, after a removal too
 abbrev superseded : List Event
@@ -173,60 +164,26 @@ unfolding is_same is_before
 superseded_table = refl
 
 -- queries 0 to 63 of one client
-abbrev creates : ℕ → List Event
-creates zero = []
-creates (suc n) = event.Create 0 n all_files ∷ creates n
+abbrev creates : Expr → ℕ → List Event
+creates e zero = []
+creates e (suc n) = event.Create 0 n (all_files e) ∷ creates e n
 
-too_many_replies : drop 64 (run standard (creates 64 ++ event.Create 0 64 all_files ∷ event.Stop 0 0 ∷ event.Create 0 64 all_files ∷ event.Create 0 64 all_files ∷ [])).replies
+too_many_replies : (e : Expr) → drop 64 (run standard (creates e 64 ++ event.Create 0 64 (all_files e) ∷ event.Stop 0 0 ∷ event.Create 0 64 (all_files e) ∷ event.Create 0 64 (all_files e) ∷ [])).replies
     ≡ reply.TooMany ∷ reply.Stopped ∷ reply.Created 0 ∷ reply.Taken ∷ []
-too_many_replies = refl
-
--- an update is due with two items or after half a second
-abbrev batched : Spec
-batched = record { scope = []; name = None; batch = record { first = None; progress = None; update = Some 2; ms = Some 500 } }
-
-abbrev batching : List Event
-batching =
-    event.Create 0 1 batched ∷ event.Gather 0 1 0 ∷ [] ++ put 1 a_txt (codes "x") ++ event.Poll 0 1 100 ∷ event.Poll 0 1 500 ∷ []
-    ++ put 2 b_txt (codes "x") ++ put 3 c_txt (codes "x") ++ event.Poll 0 1 500 ∷ []
-
-batching_replies : (run standard batching).replies
-    ≡ reply.Created 0 ∷ reply.Finished (last_of []) 0 ∷ reply.Ticket 1 ∷ reply.Committed 1 ∷ reply.NotYet 1
-    ∷ reply.Notice (record { from = 0; to = 1; added = row a_txt ∷ []; changed = []; removed = [] })
-    ∷ reply.Ticket 2 ∷ reply.Committed 2 ∷ reply.Ticket 3 ∷ reply.Committed 3
-    ∷ reply.Notice (record { from = 1; to = 3; added = row b_txt ∷ row c_txt ∷ []; changed = []; removed = [] }) ∷ []
-unfolding is_same is_before is_inside keeps answer
-batching_replies = refl
+too_many_replies e = refl
 
 -- each limit is reached
 abbrev narrow : Limits
 narrow = record { paths = 1; tickets = 4; queries = 1; disables = 2 }
 
-abbrev limited : List Event
-limited =
+abbrev limited : Expr → List Event
+limited e =
     put 1 a_txt (codes "x") ++ put 2 b_txt (codes "x") ++ event.Close 2 ∷ event.Draw a_txt ∷ event.Draw a_txt ∷ event.Draw a_txt
-    ∷ event.Create 0 1 all_files ∷ event.Create 0 2 all_files ∷ event.Disable 0 1 ∷ event.Disable 0 1 ∷ event.Disable 0 1 ∷ event.Gather 0 1 0
+    ∷ event.Create 0 1 (all_files e) ∷ event.Create 0 2 (all_files e) ∷ event.Disable 0 1 ∷ event.Disable 0 1 ∷ event.Disable 0 1 ∷ event.Gather 0 1 0
     ∷ event.Enable 0 1 0 ∷ event.Enable 0 1 0 ∷ event.Vacuum 0 ∷ []
 
-limited_replies : (run narrow limited).replies
+limited_replies : (e : Expr) → (run narrow (limited e)).replies
     ≡ reply.Ticket 1 ∷ reply.Committed 1 ∷ reply.Ticket 2 ∷ reply.StoreFull ∷ reply.Closed ∷ reply.Ticket 3 ∷ reply.Ticket 4 ∷ reply.TicketsSpent
     ∷ reply.Created 1 ∷ reply.TooMany ∷ reply.Disabled 1 ∷ reply.Disabled 2 ∷ reply.TooDeep ∷ reply.Held 2 ∷ reply.StillDisabled 1 ∷ reply.Resumed ∷ reply.Vacuumed ∷ []
 unfolding is_same is_before
-limited_replies = refl
-
--- the same parts for each spec that keeps every row, whatever its expression
-in_parts_of : Spec → List Event
-in_parts_of spec =
-    put 1 a_txt (codes "x") ++ put 2 b_txt (codes "x") ++ put 3 c_txt (codes "x") ++ put 4 d_txt (codes "x")
-    ++ event.Create 0 1 spec ∷ event.Gather 0 1 0 ∷ event.Gather 0 1 0 ∷ event.Gather 0 1 0 ∷ event.Gather 0 1 0 ∷ []
-
-whole : (spec : Spec) → ((r : Row) → keeps spec r ≡ true) → (rows : List Row) → answer spec rows ≡ rows
-unfolding answer
-whole spec h [] = refl
-whole spec h (r ∷ rows) = rw (h r) (ap (λ rest. r ∷ rest) (whole spec h rows))
-
-part_replies_of : (name : Option (List ℕ)) → ((rows : List Row) → answer (record by_two { name = name }) rows ≡ rows) → drop 8 (run standard (in_parts_of (record by_two { name = name }))).replies
-    ≡ reply.Created 4 ∷ reply.Progress (part_of (row a_txt ∷ row b_txt ∷ [])) ∷ reply.Progress (part_of (row c_txt ∷ row d_txt ∷ []))
-    ∷ reply.Finished (last_of []) 4 ∷ reply.AlreadyFinished 4 ∷ []
-unfolding is_same is_before in_parts_of
-part_replies_of name h = simp h
+limited_replies e = refl

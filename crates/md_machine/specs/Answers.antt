@@ -1,29 +1,23 @@
 -- What a query answers on a table, and how its answers on two tables differ.
-use Rattle.std.specs.Prelude.{ℕ, Bool, true, List, [], ◌&&◌, Option, None, Some, filter, map, codes}
+use Rattle.std.specs.Prelude.{ℕ, Bool, List, [], ◌&&◌, None, filter, map, ℤ}
 use Rattle.md_value.specs.Path.{is_inside}
-use Rattle.md_value.specs.Attrs.{has_text}
+use Rattle.md_value.specs.Values.{PathBytes}
+use Rattle.md_expr_tree.specs.declared.tree.Expr.{Expr}
+use Rattle.md_match.specs.Satisfies.{satisfies}
 use Rattle.md_world.specs.Tables.{shown}
 use Rattle.md_world.specs.Differences.{Difference, difference}
 use Rattle.md_world.specs.declared.Row.{Row}
 use Rattle.md_world.specs.declared.Notice.{Notice}
 use Rattle.md_machine.specs.declared.Spec.{Spec}
 
--- what asks for the files of this name, anywhere, each update at once
-abbrev pub name_is : List ℕ → Spec
-name_is text = record { scope = []; name = Some text; batch = record { first = None; progress = None; update = None; ms = None } }
+-- what asks for the files inside the scope that satisfy the expression, each update at once
+abbrev pub asked : Expr → ℤ → ℤ → PathBytes → Spec
+asked expr now offset scope =
+    record { expr = expr; now = now; offset = offset; scope = scope; batch = record { first = None; progress = None; update = None; ms = None } }
 
--- the attribute that has a file's name
-abbrev pub file_name : List ℕ
-file_name = codes "kMDItemFSName"
-
--- whether a row satisfies what is asked; no name is satisfied by each row
-abbrev pub satisfies : Option (List ℕ) → Row → Bool
-satisfies None row = true
-satisfies (Some text) row = has_text file_name text row.attrs
-
--- whether a row is among a query's hits: inside its scope, and as it asks
+-- whether a row is among a query's hits: inside its scope, and its attributes satisfy the expression
 unfoldable pub keeps : Spec → Row → Bool
-keeps spec row = is_inside row.path spec.scope && satisfies spec.name row
+keeps spec row = is_inside row.path spec.scope && satisfies spec.now spec.offset spec.expr row.attrs
 
 -- a query's answer on a table: its hits, in the table's order
 unfoldable pub answer : Spec → List Row → List Row
