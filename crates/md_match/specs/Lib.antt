@@ -2,3 +2,4 @@ pub mod Meets
 pub mod Satisfies
 pub mod Forms
 pub mod Conditions
+pub mod Ready

@@ -4,6 +4,9 @@ ghost use Rattle.md_match.specs.Forms.{forms, first_out_of_range};
 ghost use Rattle.md_match.specs.Conditions.{passes};
 ghost use Rattle.md_match.specs.declared.filter.FilterError.TheVariants.{Memory};
 
+use crate::forms::first_out_of_range;
+use crate::local::Local;
+use crate::ready::Ready;
 use md_expr_tree::Expr;
 use md_value::{Copied, Path};
 use md_world::Row;
@@ -15,9 +18,10 @@ use std::marker::Model;
 #[derive(Drop)]
 pub struct Filter {
     expr: Expr,
-    moment: i64,
-    offset: i32,
+    local: Local,
     scope: Path,
+    /// The expression with its keys made and its moments told.
+    ready: Ready,
 }
 
 impl Model for Filter {
@@ -27,7 +31,14 @@ impl Model for Filter {
 
     ghost coded = { condition_code };
 
-    ghost view = { λ f. record { expr = f.expr; moment = f.moment; offset = f.offset; scope = f.scope } };
+    ghost view = { λ f. record { expr = f.expr; moment = f.local.moment; offset = f.local.offset; scope = f.scope } };
+
+    ghost use Rattle.std.specs.Prelude.{◌≡◌, List};
+    ghost use Rattle.md_value.specs.Attrs.{Attr};
+    ghost use Rattle.md_match.specs.Satisfies.{satisfies};
+    ghost use Rattle.md_match.specs.Ready.{is_satisfied};
+
+    ghost invariant = { λ f. (attrs : List Attr) → is_satisfied f.ready attrs ≡ satisfies f.local.moment f.local.offset f.expr attrs };
 }
 
 /// Why a filter was not made.
@@ -65,14 +76,29 @@ impl Filter {
         ensures in_range { IfOk result (λ _. first_out_of_range now offset expr.now ≡ None) }
         ensures out_of_range { (which : ℕ) → IsErrOf result (FilterError.TimeOutOfRange which) → first_out_of_range now offset expr.now ≡ Some which }
     {
-        Err(FilterError::Memory)
+        let local = Local {
+            moment: now,
+            offset,
+        };
+        if let Some(which) = first_out_of_range(alloc, expr, &local)? {
+            return Err(FilterError::TimeOutOfRange(which));
+        }
+        Ok(Filter {
+            expr: expr.copy(alloc)?,
+            local,
+            scope: scope.copy(alloc)?,
+            ready: Ready::of(alloc, expr, &local)?,
+        })
     }
 
     /// Whether the row's path is inside the scope and its attributes satisfy the expression.
     pub fn test(&self, alloc: Global, row: &Row) -> Result<bool, AllocError>
         ensures { IfOk result (λ is. is ≡ passes self.now row.now) }
     {
-        Err(AllocError)
+        if !row.path.inside(&self.scope) {
+            return Ok(false);
+        }
+        self.ready.is_satisfied(alloc, &row.attrs)
     }
 
     /// The expression. Takes no memory.
@@ -86,14 +112,14 @@ impl Filter {
     pub fn now(&self) -> i64
         ensures { result ≡ self.now.moment }
     {
-        self.moment
+        self.local.moment
     }
 
     /// The minutes by which local time is ahead of UTC. Takes no memory.
     pub fn offset(&self) -> i32
         ensures { result ≡ self.now.offset }
     {
-        self.offset
+        self.local.offset
     }
 
     /// The folder. Takes no memory.
