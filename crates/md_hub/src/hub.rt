@@ -26,7 +26,7 @@ pub enum Verdict {
 }
 
 /// A server that keeps whole tables.
-#[derive(Debug, Drop)]
+#[derive(Drop)]
 pub struct Hub {
     limits: Limits,
     version: u32,
@@ -39,10 +39,13 @@ pub struct Hub {
 
 impl Model for Hub {
     ghost use Rattle.md_machine.specs.States.{State};
+    ghost use Rattle.md_machine.specs.Codes.{state_code};
     ghost use Rattle.md_hub.specs.States.{state_of};
     ghost use Rattle.md_hub.specs.Sound.{IsSound};
 
     ghost Value = { State };
+
+    ghost coded = { state_code };
 
     ghost view = { λ h. state_of h.limits h.version h.table.items h.drawn h.tickets.items h.stamps.items h.queries.items };
 
@@ -167,10 +170,10 @@ impl Hub {
         number: u32,
         spec: &Spec,
     ) -> Result<Reply, AllocError>
-        ensures reply { IfOk result (λ r. r ≡ (step self.old (Event.Create client number spec.now)).reply) }
-        ensures state { OnOk result (self.new ≡ (step self.old (Event.Create client number spec.now)).state) }
+        ensures reply { IfOk result (λ r. r ≡ (step self.old (Event.Create client number spec.entry.now)).reply) }
+        ensures state { OnOk result (self.new ≡ (step self.old (Event.Create client number spec.entry.now)).state) }
         ensures err { OnErr result (self.new ≡ self.old) }
-        ensures memory { OnErr result (takes_memory (step self.old (Event.Create client number spec.now)).reply ≡ true) }
+        ensures memory { OnErr result (takes_memory (step self.old (Event.Create client number spec.entry.now)).reply ≡ true) }
         ensures plain { IfOk result (λ r. is_plain r ≡ true) }
     {
         if queries::is_live(&self.queries, client, number) {
@@ -179,9 +182,7 @@ impl Hub {
         if queries::count_of(&self.queries, client) >= self.limits.queries as usize {
             return Ok(Reply::TooMany);
         }
-        let rows = tables::copy_rows(alloc, &self.table)?;
-        let spec = spec.copy(alloc)?;
-        let query = LiveQuery::new(client, number, spec, self.version, rows);
+        let query = LiveQuery::new(alloc, client, number, spec, self.version, &self.table)?;
         self.queries.push(query)?;
         Ok(Reply::Created(self.version))
     }

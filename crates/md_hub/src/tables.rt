@@ -13,7 +13,7 @@ use md_world::{Notice, Row};
 use std::alloc::{AllocError, Global};
 
 /// The rows of a table that pass the filter, in the table's order. No other function tests a row.
-#[tactic(auto, unfolding(md_machine::specs::Answers::answer), unfolding(md_machine::specs::Answers::keeps))]
+#[tactic(auto, unfolding(md_machine::specs::Answers::answer, md_machine::specs::Answers::keeps))]
 pub fn answer<'a>(
     alloc: Global,
     filter: &Filter,
@@ -145,15 +145,12 @@ pub fn count_items(old: &[&Row], new: &[&Row]) -> usize
 }
 
 /// The hits after the first `given`.
+#[tactic(auto, using(crate::proofs::Hits::hits_left))]
 pub fn hits_after<'h, 'a>(hits: &'h [&'a Row], given: usize) -> &'h [&'a Row]
     ensures rows { rows_of result.now ≡ drop given (rows_of hits.now) }
     ensures room { 0 < length result.now → given + length result.now < 2 ^ 64 }
 {
-    if given <= hits.len() {
-        &hits[given..]
-    } else {
-        &[]
-    }
+    hits.split_at(given.min(hits.len())).1
 }
 
 /// The hits as they are shown.

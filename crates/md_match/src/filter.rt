@@ -83,6 +83,23 @@ impl Filter {
         if let Some(which) = first_out_of_range(alloc, expr, &local)? {
             return Err(FilterError::TimeOutOfRange(which));
         }
+        Ok(Filter::of(alloc, expr, now, offset, scope)?)
+    }
+
+    /// The same filter, also where the moment of some form is out of range: no value meets such a form.
+    pub fn of(
+        alloc: Global,
+        expr: &Expr,
+        now: i64,
+        offset: i32,
+        scope: &Path,
+    ) -> Result<Filter, AllocError>
+        ensures { IfOk result (λ f. f ≡ record { expr = expr.now; moment = now; offset = offset; scope = scope.now }) }
+    {
+        let local = Local {
+            moment: now,
+            offset,
+        };
         Ok(Filter {
             expr: expr.copy(alloc)?,
             local,
