@@ -1,6 +1,7 @@
 -- The outcome of a text is what reading it answers, and nothing else is.
 use Rattle.std.proofs.Common.{◌≡◌, ◌≢◌, ◌<◌, ◌≤◌, ◌⊎◌, ℕ, Bool, true, false, cond, nat_lt, List, [], length, chars, Option, Some, None, Result, Ok, Err, refl, sym, ap, ◌∙◌, inl, inr, subst, arith}
 use Rattle.std.specs.Option.{option_map, option_and_then}
+use Rattle.std.specs.Result.{result_ok}
 use Rattle.std.proofs.lemmas.Bool.{ltb-true, ltb-false}
 use Rattle.std.proofs.lemmas.Bool.Decides.{Decides-ltb, nat_tests}
 use Rattle.md_expr_tree.specs.declared.tree.Expr.{Expr}
@@ -138,3 +139,13 @@ outcome_decided text h = go (nat_lt 65536 (length text)) refl
 
 pub is_answer : (text : List ℕ) → IsAnswer text
 is_answer text = record { answers = outcome_answers text; only = is_outcome text; decided = outcome_decided text }
+
+-- what a reader that answers the outcome, unless memory runs out, tells of it
+
+pub outcome_read : (text : List ℕ) (e : Expr) → (Ok e ≡ outcome text) ⊎ (Ok e ≡ Err error.Memory) → result_ok (outcome text) ≡ Some e
+outcome_read text e (inl h) = sym (ap result_ok h)
+outcome_read text e (inr h) = cc
+
+pub outcome_refused : (text : List ℕ) (x : ReadError) → x ≢ error.Memory → (Err x ≡ outcome text) ⊎ ◌≡◌ {A = Result Expr ReadError} (Err x) (Err error.Memory) → result_ok (outcome text) ≡ None
+outcome_refused text x other (inl h) = sym (ap result_ok h)
+outcome_refused text x other (inr h) = let same : x ≡ error.Memory = cc in absurd (other same)
