@@ -1,3 +1,5 @@
 pub mod Answered
+pub mod Lexed
+pub mod Outcomes
 pub mod Readings
 pub mod Well

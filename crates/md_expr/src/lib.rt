@@ -7,4 +7,4 @@ mod tests;
 
 pub use md_expr_parse::{MOST_COMPARISONS, MOST_GROUPS, ReadError};
 pub use md_expr_tree::{Expr, Literal, Op, Subject, Test};
-pub use reading::{MOST_BYTES, one_reading, read};
+pub use reading::{MOST_BYTES, one_outcome, one_reading, read};
