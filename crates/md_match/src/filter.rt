@@ -1,6 +1,6 @@
 // Filters of rows.
-ghost use Rattle.std.specs.Prelude.{◌≡◌, ◌<◌, ◌^◌, ℕ, length, IfOk, IsErrOf, Some, None};
-ghost use Rattle.md_match.specs.Forms.{forms, first_out_of_range};
+ghost use Rattle.std.specs.Prelude.{◌≡◌, ℕ, IfOk, IsErrOf, Some, None};
+ghost use Rattle.md_match.specs.Forms.{first_out_of_range};
 ghost use Rattle.md_match.specs.Conditions.{passes};
 ghost use Rattle.md_match.specs.declared.filter.FilterError.TheVariants.{Memory};
 
@@ -58,12 +58,21 @@ impl From<AllocError> for FilterError {
     }
 }
 
+fn out_of_range(which: usize) -> FilterError
+    ensures { (number : ℕ) → result ≡ FilterError.TimeOutOfRange number → number ≡ which }
+{
+    match u32::try_from(which) {
+        Ok(number) => FilterError::TimeOutOfRange(number),
+        Err(_) => FilterError::Memory,
+    }
+}
+
 impl Filter {
     /// The filter of the rows inside the scope that satisfy the expression, whose forms of time are told from `now`, in
     /// seconds since 1970 in UTC, at `offset`, the minutes by which local time is ahead of UTC.
     ///
-    /// `TimeOutOfRange` comes exactly where the moment of some form is out of range. There have to be fewer than
-    /// 4,294,967,296 forms.
+    /// `TimeOutOfRange` comes exactly where the moment of some form is out of range; in its place `Memory` comes where
+    /// the first such form has a number over 4,294,967,295.
     pub fn new(
         alloc: Global,
         expr: &Expr,
@@ -71,7 +80,6 @@ impl Filter {
         offset: i32,
         scope: &Path,
     ) -> Result<Filter, FilterError>
-        requires { length (forms expr.now) < 2 ^ 32 }
         ensures made { IfOk result (λ f. f ≡ record { expr = expr.now; moment = now; offset = offset; scope = scope.now }) }
         ensures in_range { IfOk result (λ _. first_out_of_range now offset expr.now ≡ None) }
         ensures out_of_range { (which : ℕ) → IsErrOf result (FilterError.TimeOutOfRange which) → first_out_of_range now offset expr.now ≡ Some which }
@@ -81,7 +89,7 @@ impl Filter {
             offset,
         };
         if let Some(which) = first_out_of_range(alloc, expr, &local)? {
-            return Err(FilterError::TimeOutOfRange(which));
+            return Err(out_of_range(which));
         }
         Ok(Filter::of(alloc, expr, now, offset, scope)?)
     }

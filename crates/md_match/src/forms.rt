@@ -1,5 +1,5 @@
 // The forms of time of an expression.
-ghost use Rattle.std.specs.Prelude.{◌≡◌, ◌<◌, ◌++◌, ◌^◌, length, map, is_none, IfOk, OnOk};
+ghost use Rattle.std.specs.Prelude.{◌≡◌, ◌++◌, map, is_none, IfOk, OnOk};
 ghost use Rattle.md_time.specs.Moments.{moment_of};
 ghost use Rattle.md_match.specs.Forms.{forms_of_literal, forms_of_test, joined, forms, first_out_from, first_out_of_range};
 
@@ -64,13 +64,12 @@ fn is_out_of_range(form: &Form, local: &Local) -> bool
     form.moment(local.moment, local.offset).is_err()
 }
 
-fn first_out(found: &[Form], local: &Local) -> Option<u32>
-    requires { length found.now < 2 ^ 32 }
+fn first_out(found: &[Form], local: &Local) -> Option<usize>
     ensures { result ≡ first_out_from 1 local.now.moment local.now.offset found.now }
 {
     for (place, form) in found.iter().enumerate() {
         if is_out_of_range(form, local) {
-            return Some(place as u32 + 1);
+            return Some(place + 1);
         }
     }
     None
@@ -81,8 +80,7 @@ pub fn first_out_of_range(
     alloc: Global,
     expr: &Expr,
     local: &Local,
-) -> Result<Option<u32>, AllocError>
-    requires { length (forms expr.now) < 2 ^ 32 }
+) -> Result<Option<usize>, AllocError>
     ensures { IfOk result (λ first. first ≡ first_out_of_range local.now.moment local.now.offset expr.now) }
 {
     let mut found = Items::new(alloc);

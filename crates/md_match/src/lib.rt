@@ -10,3 +10,6 @@ mod ready;
 mod wanted;
 
 pub use filter::{Filter, FilterError};
+
+#[cfg(test)]
+mod tests;
