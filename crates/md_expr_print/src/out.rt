@@ -1,0 +1,36 @@
+// Text that grows, seen as its characters.
+ghost use Rattle.std.specs.Prelude.{◌≡◌, ◌∷◌, ◌++◌, [], true, OnOk, chars, string_bytes};
+ghost use Rattle.std.specs.Char.{is_ascii};
+ghost use Rattle.std.specs.Fmt.{decimal, signed_decimal};
+ghost use Rattle.std.specs.List.{list_all};
+
+use std::alloc::AllocError;
+
+/// Appends a character.
+pub(crate) fn push(out: &mut String, c: char) -> Result<(), AllocError>
+    ensures { OnOk result (chars (string_bytes out.new) ≡ chars (string_bytes out.old) ++ c ∷ []) }
+{
+    out.push(c)
+}
+
+/// Appends an ASCII text.
+pub(crate) fn push_str(out: &mut String, text: &str) -> Result<(), AllocError>
+    requires { list_all is_ascii text.now ≡ true }
+    ensures { OnOk result (chars (string_bytes out.new) ≡ chars (string_bytes out.old) ++ text.now) }
+{
+    out.push_str(text)
+}
+
+/// Appends a number in decimal digits.
+pub(crate) fn push_number(out: &mut String, n: u128) -> Result<(), AllocError>
+    ensures { OnOk result (chars (string_bytes out.new) ≡ chars (string_bytes out.old) ++ decimal n) }
+{
+    write!(out, "{n}")
+}
+
+/// Appends a number with its sign in decimal digits.
+pub(crate) fn push_signed(out: &mut String, n: i64) -> Result<(), AllocError>
+    ensures { OnOk result (chars (string_bytes out.new) ≡ chars (string_bytes out.old) ++ signed_decimal n) }
+{
+    write!(out, "{n}")
+}
