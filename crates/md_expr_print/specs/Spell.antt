@@ -1,5 +1,5 @@
 -- The canonical spelling of expressions.
-use Rattle.std.specs.Prelude.{ℕ, List, [], ◌∷◌, ◌++◌, map, codes}
+use Rattle.std.specs.Prelude.{ℕ, List, [], ◌∷◌, ◌++◌, map, codes, chars}
 use Rattle.md_expr_tree.specs.declared.tree.Op.{Op}
 use Rattle.md_expr_tree.specs.declared.tree.Op.TheVariants as op
 use Rattle.md_expr_tree.specs.declared.tree.Subject.{Subject}
@@ -11,8 +11,9 @@ use Rattle.md_expr_tree.specs.declared.tree.Expr.TheOpen.{Expr-F}
 use Rattle.md_expr_tree.specs.declared.tree.Expr.TheFolds.{fold-Expr}
 use Rattle.md_expr_print.specs.Literals.{join, literal_text}
 
+-- a name is given as its bytes
 abbrev pub subject_text : Subject → List ℕ
-subject_text (subject.Named name) = name
+subject_text (subject.Named name) = chars name
 subject_text subject.Some = codes "*"
 
 abbrev pub op_text : Op → List ℕ
@@ -25,7 +26,7 @@ op_text op.GreaterEqual = codes ">="
 
 abbrev pub test_text : Test → List ℕ
 test_text (test.Compare s o v) = subject_text s ++ codes " " ++ op_text o ++ codes " " ++ literal_text v
-test_text (test.Range name least greatest) = codes "InRange(" ++ name ++ codes ", " ++ literal_text least ++ codes ", " ++ literal_text greatest ++ codes ")"
+test_text (test.Range name least greatest) = codes "InRange(" ++ chars name ++ codes ", " ++ literal_text least ++ codes ", " ++ literal_text greatest ++ codes ")"
 
 -- what a spelling is: a unit, a chain of `&&` or a chain of `||`
 pub data Shape : Type 0 where

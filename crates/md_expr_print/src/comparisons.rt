@@ -6,15 +6,15 @@ ghost use Rattle.md_expr_tree.specs.declared.tree.Test.TheVariants.{Compare, Ran
 ghost use Rattle.md_expr_print.specs.Spell.{op_text, subject_text, test_text};
 
 use crate::literals::push_literal;
-use crate::out::push_str;
+use crate::out::{push_str, push_text};
 use md_expr_tree::{Literal, Op, Subject, Test};
 use md_value::Name;
 use std::alloc::AllocError;
 
 fn push_name(out: &mut String, name: &Name) -> Result<(), AllocError>
-    ensures { OnOk result (chars (string_bytes out.new) ≡ chars (string_bytes out.old) ++ name.now) }
+    ensures { OnOk result (chars (string_bytes out.new) ≡ chars (string_bytes out.old) ++ chars name.now) }
 {
-    push_str(out, name.as_str())
+    push_text(out, name.as_str())
 }
 
 fn push_subject(out: &mut String, subject: &Subject) -> Result<(), AllocError>

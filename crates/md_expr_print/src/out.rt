@@ -10,7 +10,16 @@ use std::alloc::AllocError;
 pub(crate) fn push(out: &mut String, c: char) -> Result<(), AllocError>
     ensures { OnOk result (chars (string_bytes out.new) ≡ chars (string_bytes out.old) ++ c ∷ []) }
 {
-    out.push(c)
+    out.push(c)?;
+    Ok(())
+}
+
+/// Appends a text.
+pub(crate) fn push_text(out: &mut String, text: &str) -> Result<(), AllocError>
+    ensures { OnOk result (chars (string_bytes out.new) ≡ chars (string_bytes out.old) ++ chars text.now) }
+{
+    out.push_str(text)?;
+    Ok(())
 }
 
 /// Appends an ASCII text.
@@ -18,19 +27,22 @@ pub(crate) fn push_str(out: &mut String, text: &str) -> Result<(), AllocError>
     requires { list_all is_ascii text.now ≡ true }
     ensures { OnOk result (chars (string_bytes out.new) ≡ chars (string_bytes out.old) ++ text.now) }
 {
-    out.push_str(text)
+    out.push_str(text)?;
+    Ok(())
 }
 
 /// Appends a number in decimal digits.
 pub(crate) fn push_number(out: &mut String, n: u128) -> Result<(), AllocError>
     ensures { OnOk result (chars (string_bytes out.new) ≡ chars (string_bytes out.old) ++ decimal n) }
 {
-    write!(out, "{n}")
+    write!(out, "{n}")?;
+    Ok(())
 }
 
 /// Appends a number with its sign in decimal digits.
 pub(crate) fn push_signed(out: &mut String, n: i64) -> Result<(), AllocError>
     ensures { OnOk result (chars (string_bytes out.new) ≡ chars (string_bytes out.old) ++ signed_decimal n) }
 {
-    write!(out, "{n}")
+    write!(out, "{n}")?;
+    Ok(())
 }
