@@ -11,7 +11,7 @@ use Rattle.md_expr_tree.specs.declared.tree.Literal.TheVariants as literal
 abbrev pub join : List ℕ → List (List ℕ) → List ℕ
 join between [] = []
 join between (t ∷ []) = t
-join between (t ∷ u ∷ more) = t ++ between ++ join between (u ∷ more)
+join between (t ∷ u ∷ more) = t ++ (between ++ join between (u ∷ more))
 
 -- what stands before a member
 abbrev pub separator : Bool → List ℕ → List ℕ
@@ -28,7 +28,7 @@ modifier false letter = []
 
 -- pieces with a wildcard between any two, in double quotes, and the modifiers
 abbrev pub words_text : List (List ℕ) → Bool → Bool → List ℕ
-words_text pieces fold marks = codes "\"" ++ join (codes "*") (map (flat_map escape) pieces) ++ codes "\"" ++ modifier fold (codes "c") ++ modifier marks (codes "d")
+words_text pieces fold marks = codes "\"" ++ (join (codes "*") (map (flat_map escape) pieces) ++ (codes "\"" ++ (modifier fold (codes "c") ++ modifier marks (codes "d"))))
 
 -- the decimals of a number of this many places, up to the last one that is not 0
 abbrev pub decimals : ℕ → ℕ → List ℕ
@@ -45,20 +45,24 @@ minus (negsuc n) = codes "-"
 
 -- a number in parts of 10^9
 abbrev pub number_text : ℤ → List ℕ
-number_text n = minus n ++ decimal (unsigned_abs n / 10 ^ 9) ++ fraction_text (unsigned_abs n % 10 ^ 9)
+number_text n = minus n ++ (decimal (unsigned_abs n / 10 ^ 9) ++ fraction_text (unsigned_abs n % 10 ^ 9))
 
 -- a count in parentheses, where it is not 0
 abbrev pub count_text : ℤ → List ℕ
 count_text (pos zero) = []
-count_text n = codes "(" ++ signed_decimal n ++ codes ")"
+count_text n = codes "(" ++ (signed_decimal n ++ codes ")")
+
+-- a form of time by its word and its count
+unfoldable pub counted : List ℕ → ℤ → List ℕ
+counted word n = codes "$time." ++ (word ++ count_text n)
 
 abbrev pub time_text : Form → List ℕ
-time_text (form.Now n) = codes "$time.now" ++ count_text n
-time_text (form.Day n) = codes "$time.today" ++ count_text n
-time_text (form.Week n) = codes "$time.this_week" ++ count_text n
-time_text (form.Month n) = codes "$time.this_month" ++ count_text n
-time_text (form.Year n) = codes "$time.this_year" ++ count_text n
-time_text (form.Iso text) = codes "$time.iso(" ++ text ++ codes ")"
+time_text (form.Now n) = counted (codes "now") n
+time_text (form.Day n) = counted (codes "today") n
+time_text (form.Week n) = counted (codes "this_week") n
+time_text (form.Month n) = counted (codes "this_month") n
+time_text (form.Year n) = counted (codes "this_year") n
+time_text (form.Iso text) = codes "$time.iso(" ++ (text ++ codes ")")
 
 abbrev pub literal_text : Literal → List ℕ
 literal_text (literal.Words pieces fold marks) = words_text pieces fold marks

@@ -25,8 +25,8 @@ op_text op.LessEqual = codes "<="
 op_text op.GreaterEqual = codes ">="
 
 abbrev pub test_text : Test → List ℕ
-test_text (test.Compare s o v) = subject_text s ++ codes " " ++ op_text o ++ codes " " ++ literal_text v
-test_text (test.Range name least greatest) = codes "InRange(" ++ chars name ++ codes ", " ++ literal_text least ++ codes ", " ++ literal_text greatest ++ codes ")"
+test_text (test.Compare s o v) = subject_text s ++ (codes " " ++ (op_text o ++ (codes " " ++ literal_text v)))
+test_text (test.Range name least greatest) = codes "InRange(" ++ (chars name ++ (codes ", " ++ (literal_text least ++ (codes ", " ++ (literal_text greatest ++ codes ")")))))
 
 -- what a spelling is: a unit, a chain of `&&` or a chain of `||`
 pub data Shape : Type 0 where
@@ -38,7 +38,7 @@ abbrev pub Spelling : Type 0
 Spelling = Shape × List ℕ
 
 abbrev pub in_group : List ℕ → List ℕ
-in_group text = codes "(" ++ text ++ codes ")"
+in_group text = codes "(" ++ (text ++ codes ")")
 
 -- a member of a chain of `&&`
 abbrev pub in_all : Spelling → List ℕ

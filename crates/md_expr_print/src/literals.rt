@@ -2,7 +2,7 @@
 ghost use Rattle.std.specs.Prelude.{◌≡◌, ◌++◌, ◌∷◌, [], ◌+◌, ◌<◌, ◌≤◌, ◌^◌, map, true, codes, OnOk, chars, string_bytes};
 ghost use Rattle.std.specs.Char.{is_ascii};
 ghost use Rattle.std.specs.List.{flat_map, list_all};
-ghost use Rattle.md_expr_print.specs.Literals.{count_text, decimals, escape, fraction_text, join, literal_text, minus, modifier, number_text, separator, time_text, words_text};
+ghost use Rattle.md_expr_print.specs.Literals.{counted, count_text, decimals, escape, fraction_text, join, literal_text, minus, modifier, number_text, separator, time_text, words_text};
 
 use crate::out::{push, push_number, push_signed, push_str};
 use md_expr_tree::Literal;
@@ -148,16 +148,18 @@ fn push_count(out: &mut String, n: i64) -> Result<(), AllocError>
     push_str(out, ")")
 }
 
+#[tactic(auto, unfolding(crate::specs::Literals::counted))]
 fn push_counted(out: &mut String, word: &str, n: i64) -> Result<(), AllocError>
     requires { list_all is_ascii word.now ≡ true }
-    ensures { OnOk result (chars (string_bytes out.new) ≡ chars (string_bytes out.old) ++ word.now ++ count_text n) }
+    ensures { OnOk result (chars (string_bytes out.new) ≡ chars (string_bytes out.old) ++ counted word.now n) }
 {
+    push_str(out, "$time.")?;
     push_str(out, word)?;
     push_count(out, n)
 }
 
 fn push_iso(out: &mut String, iso: &IsoText) -> Result<(), AllocError>
-    ensures { OnOk result (chars (string_bytes out.new) ≡ chars (string_bytes out.old) ++ codes "$time.iso(" ++ iso.now ++ codes ")") }
+    ensures { OnOk result (chars (string_bytes out.new) ≡ chars (string_bytes out.old) ++ (codes "$time.iso(" ++ (iso.now ++ codes ")"))) }
 {
     push_str(out, "$time.iso(")?;
     push_str(out, iso.text())?;
@@ -168,11 +170,11 @@ fn push_time(out: &mut String, form: &Form) -> Result<(), AllocError>
     ensures { OnOk result (chars (string_bytes out.new) ≡ chars (string_bytes out.old) ++ time_text form.now) }
 {
     match form {
-        Form::Now(n) => push_counted(out, "$time.now", *n),
-        Form::Day(n) => push_counted(out, "$time.today", *n),
-        Form::Week(n) => push_counted(out, "$time.this_week", *n),
-        Form::Month(n) => push_counted(out, "$time.this_month", *n),
-        Form::Year(n) => push_counted(out, "$time.this_year", *n),
+        Form::Now(n) => push_counted(out, "now", *n),
+        Form::Day(n) => push_counted(out, "today", *n),
+        Form::Week(n) => push_counted(out, "this_week", *n),
+        Form::Month(n) => push_counted(out, "this_month", *n),
+        Form::Year(n) => push_counted(out, "this_year", *n),
         Form::Iso(iso) => push_iso(out, iso),
     }
 }
