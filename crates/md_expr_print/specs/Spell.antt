@@ -1,5 +1,5 @@
 -- The canonical spelling of expressions.
-use Rattle.std.specs.Prelude.{ℕ, List, [], ◌∷◌, ◌++◌, map, codes, chars}
+use Rattle.std.specs.Prelude.{ℕ, List, ◌++◌, map, codes, chars}
 use Rattle.md_expr_tree.specs.declared.tree.Op.{Op}
 use Rattle.md_expr_tree.specs.declared.tree.Op.TheVariants as op
 use Rattle.md_expr_tree.specs.declared.tree.Subject.{Subject}

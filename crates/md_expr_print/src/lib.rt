@@ -3,7 +3,9 @@
 
 mod comparisons;
 mod exprs;
+mod laws;
 mod literals;
 mod out;
 
 pub use exprs::print;
+pub use laws::spelling_reads_back;

@@ -1,5 +1,4 @@
-use Rattle.std.proofs.Common.{rules, ◌≡◌, ◌<◌, ◌≤◌, ◌==◌, ◌+◌, ◌-◌, ◌/◌, ◌%◌, ◌^◌, suc, false, ◌++◌, ◌∷◌, [], sym, ap, ◌∙◌, subst, arith, chars, string_bytes, List, ℕ}
-use Rattle.md_expr_print.specs.Literals.{decimals}
+use Rattle.std.proofs.Common.{rules, ◌≡◌, ◌==◌, ◌+◌, ◌-◌, ◌/◌, ◌^◌, suc, false, ◌++◌, ◌∷◌, [], sym, arith, chars, string_bytes}
 use Rattle.md_expr_print.proofs.Digits.{one_digit, one_left, rest_below}
 use Rattle.md_expr_print.proofs.literals.push_decimals.Goals as goal
 
