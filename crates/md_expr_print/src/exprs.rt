@@ -1,5 +1,6 @@
 // Chains, groups and whole expressions.
 ghost use Rattle.std.specs.Prelude.{◌≡◌, ◌++◌, map, codes, IfOk, OnOk, chars, string_bytes};
+ghost use Rattle.md_expr_tree.specs.Reads.{IsFit, Reads};
 ghost use Rattle.md_expr_print.specs.Literals.{join};
 ghost use Rattle.md_expr_print.specs.Spell.{in_all, in_any, in_group, spell, spelling};
 
@@ -80,9 +81,15 @@ fn push_expr(out: &mut String, e: &Expr) -> Result<(), AllocError>
     }
 }
 
-/// The canonical spelling of the expression. Fails only where memory runs out.
+/// The canonical spelling of the expression, which reads as it where some text does. Fails only where memory runs out.
+///
+/// One space stands on each side of an operator, of `&&` and of `||`, and one behind a comma. Strings stand in double
+/// quotes, with `"`, `\` and a literal `*` behind a `\`, and the modifiers `c` and `d` in this order. Numbers have no
+/// needless zero, zero no sign, and a form of time a count only where it is not 0. `!` stands before a group. A member of
+/// a chain of `&&` stands in parentheses where it is a chain, one of a chain of `||` where it is a chain of `||`.
 pub fn print(alloc: Global, expr: &Expr) -> Result<String, Memory>
-    ensures { IfOk result (λ text. chars (string_bytes text) ≡ spell expr.now) }
+    ensures spelling { IfOk result (λ text. chars (string_bytes text) ≡ spell expr.now) }
+    ensures reads_back { IfOk result (λ text. IsFit expr.now → Reads (chars (string_bytes text)) expr.now) }
 {
     let mut out = String::new(alloc);
     push_expr(&mut out, expr)?;

@@ -6,6 +6,5 @@ use md_expr_tree::Expr;
 
 /// A law: the canonical spelling of an expression that some text reads as reads as that expression.
 pub fn spelling_reads_back(expr: &Expr)
-    requires { IsFit expr.now }
-    ensures { Reads (spell expr.now) expr.now }
+    ensures { IsFit expr.now → Reads (spell expr.now) expr.now }
 {}

@@ -6,6 +6,8 @@ mod exprs;
 mod laws;
 mod literals;
 mod out;
+#[cfg(test)]
+mod tests;
 
 pub use exprs::print;
 pub use laws::spelling_reads_back;
