@@ -119,6 +119,7 @@ any_shown (more {e} {es = []} s ss) = elim ss [ ]
 
 mutual
   unfolding Shows Shown AsUnit
+
   unit_shown : {ts : List Token} {e : Expr} → IsUnit ts e → AreSpellable ts → Shown e
   unit_shown (comparison {ts} {t} c) w = shown_as _ _ (spelling-Test t) (record { tokens = ts; is = comparison c; lexes = λ rest us end l. test_lexes rest us c w end l })
   unit_shown (group {ts} {es} a) w = any_shown (any_are_shown a (parts_spellable ts (token.Close ∷ []) w.1).0)

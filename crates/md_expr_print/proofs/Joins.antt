@@ -26,8 +26,8 @@ one_more between r before now next [] x w e = record {
 }
 one_more between r before now next (t ∷ done) x w e = record {
   whole = e ∙ ap (λ b. (now ++ separator b between) ++ x) w.first ∙ ap (λ n. (n ++ between) ++ x) w.whole
-    ∙ append_assoc (before ++ join between (t ∷ done)) between x ∙ append_assoc before (join between (t ∷ done)) (between ++ x)
-    ∙ ap (λ l. before ++ l) (sym (join_more between t done x));
+      ∙ append_assoc (before ++ join between (t ∷ done)) between x ∙ append_assoc before (join between (t ∷ done)) (between ++ x)
+      ∙ ap (λ l. before ++ l) (sym (join_more between t done x));
   first = refl;
 }
 

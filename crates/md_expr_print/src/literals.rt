@@ -68,12 +68,7 @@ fn push_modifier(out: &mut String, is_set: bool, letter: &str) -> Result<(), All
     Ok(())
 }
 
-fn push_words(
-    out: &mut String,
-    pieces: &[Text],
-    fold: bool,
-    marks: bool,
-) -> Result<(), AllocError>
+fn push_words(out: &mut String, pieces: &[Text], fold: bool, marks: bool) -> Result<(), AllocError>
     ensures { OnOk result (chars (string_bytes out.new) ≡ chars (string_bytes out.old) ++ words_text pieces.now fold marks) }
 {
     push_str(out, "\"")?;

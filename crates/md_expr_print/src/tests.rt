@@ -79,13 +79,28 @@ fn trees(rt: HostRuntime) -> Result<(), Fail> {
         (words(alloc, true, true)?, "a == \"*\\\"\\*\\\\'é*b\"cd"),
         (words(alloc, false, true)?, "a == \"*\\\"\\*\\\\'é*b\"d"),
         (compared(alloc, Op::Greater, Literal::Number(0))?, "a > 0"),
-        (compared(alloc, Op::GreaterEqual, Literal::Number(-1_050_000_000))?, "a >= -1.05"),
-        (compared(alloc, Op::LessEqual, Literal::Time(Form::Now(0)))?, "a <= $time.now"),
-        (compared(alloc, Op::Less, Literal::Time(Form::Iso(iso)))?, "a < $time.iso(2024-03-15T11:00:00+0100)"),
+        (
+            compared(alloc, Op::GreaterEqual, Literal::Number(-1_050_000_000))?,
+            "a >= -1.05"
+        ),
+        (
+            compared(alloc, Op::LessEqual, Literal::Time(Form::Now(0)))?,
+            "a <= $time.now"
+        ),
+        (
+            compared(alloc, Op::Less, Literal::Time(Form::Iso(iso)))?,
+            "a < $time.iso(2024-03-15T11:00:00+0100)"
+        ),
         (range(alloc)?, "InRange(b, -0.0105, $time.this_week(2))"),
         (negated(alloc, any(alloc)?)?, "!(a < 1 || a < 1)"),
-        (Expr::All(two(any(alloc)?, all(alloc)?, alloc)?), "(a < 1 || a < 1) && (a < 1 && a < 1)"),
-        (Expr::Any(two(any(alloc)?, all(alloc)?, alloc)?), "(a < 1 || a < 1) || a < 1 && a < 1"),
+        (
+            Expr::All(two(any(alloc)?, all(alloc)?, alloc)?),
+            "(a < 1 || a < 1) && (a < 1 && a < 1)"
+        ),
+        (
+            Expr::Any(two(any(alloc)?, all(alloc)?, alloc)?),
+            "(a < 1 || a < 1) || a < 1 && a < 1"
+        ),
     ]?;
     for (expr, text) in &rows {
         let printed = print(alloc, expr)?;
