@@ -1,4 +1,4 @@
-use Rattle.std.proofs.Common.{◌≡◌, sym, subst, ap, ◌∙◌, ◌++◌, List, ℕ, chars, string_bytes}
+use Rattle.std.proofs.Common.{sym, subst, ap, ◌∙◌, ◌++◌, List, ℕ, chars}
 use Rattle.std.proofs.lemmas.Str.{chars-nil}
 use Rattle.md_expr_tree.specs.Reads.{Reads}
 use Rattle.md_expr_print.specs.Spell.{spell}
