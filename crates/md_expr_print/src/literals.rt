@@ -2,9 +2,9 @@
 ghost use Rattle.std.specs.Prelude.{◌≡◌, ◌++◌, ◌∷◌, [], ◌+◌, ◌<◌, ◌≤◌, ◌^◌, map, true, codes, OnOk, chars, string_bytes};
 ghost use Rattle.std.specs.Char.{is_ascii};
 ghost use Rattle.std.specs.List.{flat_map, list_all};
-ghost use Rattle.md_expr_print.specs.Literals.{counted, count_text, decimals, escape, fraction_text, join, literal_text, minus, modifier, number_text, separator, time_text, words_text};
+ghost use Rattle.md_expr_print.specs.Literals.{counted, count_text, decimals, escape, fraction_text, join, literal_text, minus, modifier, number_text, time_text, words_text};
 
-use crate::out::{push, push_number, push_signed, push_str};
+use crate::out::{push, push_between, push_number, push_signed, push_str};
 use md_expr_tree::Literal;
 use md_time::{Form, IsoText};
 use md_value::Text;
@@ -27,21 +27,6 @@ fn push_piece(out: &mut String, piece: &Text) -> Result<(), AllocError>
 {
     for c in piece.as_str().chars() {
         push_escaped(out, c)?;
-    }
-    Ok(())
-}
-
-/// Appends what stands between two members, and nothing before the first.
-pub(crate) fn push_between(
-    out: &mut String,
-    is_first: bool,
-    between: &str,
-) -> Result<(), AllocError>
-    requires { list_all is_ascii between.now ≡ true }
-    ensures { OnOk result (chars (string_bytes out.new) ≡ chars (string_bytes out.old) ++ separator is_first between.now) }
-{
-    if !is_first {
-        push_str(out, between)?;
     }
     Ok(())
 }

@@ -3,6 +3,7 @@ ghost use Rattle.std.specs.Prelude.{◌≡◌, ◌∷◌, ◌++◌, [], true, On
 ghost use Rattle.std.specs.Char.{is_ascii};
 ghost use Rattle.std.specs.Fmt.{decimal, signed_decimal};
 ghost use Rattle.std.specs.List.{list_all};
+ghost use Rattle.md_expr_print.specs.Literals.{separator};
 
 use std::alloc::AllocError;
 
@@ -44,5 +45,20 @@ pub(crate) fn push_signed(out: &mut String, n: i64) -> Result<(), AllocError>
     ensures { OnOk result (chars (string_bytes out.new) ≡ chars (string_bytes out.old) ++ signed_decimal n) }
 {
     write!(out, "{n}")?;
+    Ok(())
+}
+
+/// Appends what stands between two members, and nothing before the first.
+pub(crate) fn push_between(
+    out: &mut String,
+    is_first: bool,
+    between: &str,
+) -> Result<(), AllocError>
+    requires { list_all is_ascii between.now ≡ true }
+    ensures { OnOk result (chars (string_bytes out.new) ≡ chars (string_bytes out.old) ++ separator is_first between.now) }
+{
+    if !is_first {
+        push_str(out, between)?;
+    }
     Ok(())
 }
