@@ -1,0 +1,3 @@
+mod Fits
+mod Splits
+pub mod Well
