@@ -1,5 +1,5 @@
 -- Texts that read as the expressions of plain texts and names.
-use Rattle.std.proofs.Common.{◌≡◌, ◌<◌, ℕ, Bool, true, false, ◌||◌, ◌==◌, cond, List, [], ◌∷◌, ◌++◌, length, map, codes, refl, subst, arith, append-nil}
+use Rattle.std.proofs.Common.{◌≡◌, ◌<◌, ℕ, Bool, true, false, ◌||◌, ◌==◌, cond, List, [], ◌∷◌, ◌++◌, length, map, codes, refl, sym, subst, arith, append-nil}
 use Rattle.md_value.specs.Name.{is_name_part}
 use Rattle.md_expr_tree.specs.declared.tree.Op.TheVariants as op
 use Rattle.md_expr_tree.specs.declared.token.Token.{Token}
@@ -9,7 +9,9 @@ use Rattle.md_expr_tree.specs.Classes.{is_escapable, IsBefore}
 use Rattle.md_expr_tree.specs.Grammar.{all_of, IsComparison, compare, name as named_subject, star as some_subject, words, IsAll, last_unit, and as also, last_all, comparison, expression}
 use Rattle.md_expr_tree.specs.Tokens.{IsBody, done, plain, escaped, wildcard, cd, Stands, name, string, equal, star, and, Lexes, over, then}
 use Rattle.md_expr_tree.specs.Reads.{IsFit}
+use Rattle.md_expr_tree.specs.WellMade.{is_well_made}
 use Rattle.md_expr_plain.specs.Plain.{anywhere, word_test, name_test}
+use Rattle.md_expr_plain.proofs.Well.{expression_well}
 
 -- the characters, each literal between quotes
 abbrev escaped_by : Bool → ℕ → List ℕ
@@ -69,14 +71,17 @@ reads_joined : (w : List ℕ) (ws : List (List ℕ)) → IsAll (tokens w ws) (ma
 reads_joined w [] = last_unit (comparison (compare some_subject words))
 reads_joined w (v ∷ vs) = also (comparison (compare some_subject words)) (reads_joined v vs)
 
-pub fit_words : (ws : List (List ℕ)) → 0 < length ws → IsFit (all_of (map word_test ws))
+fit_words : (ws : List (List ℕ)) → 0 < length ws → IsFit (all_of (map word_test ws))
 fit_words [] h = absurd (omega (arith, h))
 fit_words (w ∷ ws) h = record {
   text = joined w ws;
   reads = record { tokens = tokens w ws; lexes = lexes_joined w ws; reads = expression (last_all (reads_joined w ws)) };
 }
 
-pub fit_name : (text : List ℕ) → IsFit (name_test text)
+pub fit_all : (ws : List (List ℕ)) (e : Expr) → 0 < length ws → e ≡ all_of (map word_test ws) → IsFit e
+fit_all ws e h is = subst IsFit (sym is) (fit_words ws h)
+
+fit_name : (text : List ℕ) → IsFit (name_test text)
 fit_name text = record {
   text = codes "kMDItemFSName" ++ equals text [];
   reads = record {
@@ -85,3 +90,9 @@ fit_name text = record {
     reads = expression (last_all (last_unit (comparison (compare named_subject words))));
   };
 }
+
+pub fit_named : (text : List ℕ) (e : Expr) → e ≡ name_test text → IsFit e
+fit_named text e is = subst IsFit (sym is) (fit_name text)
+
+pub well : (e : Expr) → IsFit e → is_well_made e ≡ true
+well e fit = expression_well fit.reads.tokens e fit.reads.reads
