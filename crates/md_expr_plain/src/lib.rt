@@ -6,3 +6,5 @@ mod words;
 
 pub use plain::{MOST_BYTES, interpret, named};
 
+#[cfg(test)]
+mod tests;

@@ -37,13 +37,11 @@ fn anywhere(alloc: Global, text: &str) -> Result<Literal, AllocError>
 fn equality(subject: Subject, literal: Literal) -> Expr
     ensures { result ≡ Expr.Test (Test.Compare subject Op.Equal literal) }
 {
-    Expr::Test(
-        Test::Compare {
-            subject,
-            op: Op::Equal,
-            literal,
-        },
-    )
+    Expr::Test(Test::Compare {
+        subject,
+        op: Op::Equal,
+        literal,
+    })
 }
 
 fn word_test(alloc: Global, word: &[char]) -> Result<Expr, AllocError>
