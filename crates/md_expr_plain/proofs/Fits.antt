@@ -1,13 +1,13 @@
 -- Texts that read as the expressions of plain texts and names.
-use Rattle.std.proofs.Common.{◌≡◌, ◌<◌, ℕ, Bool, true, false, ◌||◌, ◌==◌, cond, List, [], ◌∷◌, ◌++◌, length, map, codes, refl, sym, subst, arith, append-nil}
+use Rattle.std.proofs.Common.{◌≡◌, ◌<◌, ℕ, Bool, true, false, ◌||◌, ◌==◌, List, [], ◌∷◌, ◌++◌, length, map, codes, refl, sym, subst, arith, append-nil}
 use Rattle.md_value.specs.Name.{is_name_part}
 use Rattle.md_expr_tree.specs.declared.tree.Op.TheVariants as op
 use Rattle.md_expr_tree.specs.declared.token.Token.{Token}
 use Rattle.md_expr_tree.specs.declared.token.Token.TheVariants as token
 use Rattle.md_expr_tree.specs.declared.tree.Expr.{Expr}
 use Rattle.md_expr_tree.specs.Classes.{is_escapable, IsBefore}
-use Rattle.md_expr_tree.specs.Grammar.{all_of, IsComparison, compare, name as named_subject, star as some_subject, words, IsAll, last_unit, and as also, last_all, comparison, expression}
-use Rattle.md_expr_tree.specs.Tokens.{IsBody, done, plain, escaped, wildcard, cd, Stands, name, string, equal, star, and, Lexes, over, then}
+use Rattle.md_expr_tree.specs.Grammar.{all_of, compare, name as named_subject, star as some_subject, words, IsAll, last_unit, and as also, last_all, comparison, expression}
+use Rattle.md_expr_tree.specs.Tokens.{IsBody, done, plain, escaped, wildcard, cd, name, string, equal, star, and, Lexes, over, then}
 use Rattle.md_expr_tree.specs.Reads.{IsFit}
 use Rattle.md_expr_tree.specs.WellMade.{is_well_made}
 use Rattle.md_expr_plain.specs.Plain.{anywhere, word_test, name_test}

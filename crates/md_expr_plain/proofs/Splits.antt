@@ -1,16 +1,9 @@
 -- Texts of characters.
-use Rattle.std.proofs.Common.{◌≡◌, ◌<◌, ◌≤◌, ℕ, Bool, true, false, ◌+◌, List, [], ◌∷◌, ◌++◌, length, map, filter, take, get_or, chars, IsUtf8, nat_lt, ◌&&◌, Result, Ok, Err, refl, sym, ap, ◌∙◌, arith, append-nil}
+use Rattle.std.proofs.Common.{◌≡◌, ◌<◌, ℕ, true, ◌+◌, List, [], ◌∷◌, ◌++◌, length, take, get_or, chars, IsUtf8, ◌&&◌, sym, ap, ◌∙◌, append-nil}
 use Rattle.std.specs.Char.{encode_utf8}
 use Rattle.std.proofs.Math.Utf8.{scalar, scalars}
-use Rattle.std.proofs.lemmas.Bool.{lt-ltb, le-ltb}
-use Rattle.std.proofs.lemmas.List.{map-append, take_more, get_or_read}
-use Rattle.std.proofs.lemmas.List.Elements.{filter-append}
+use Rattle.std.proofs.lemmas.List.{take_more}
 use Rattle.std.proofs.lemmas.Str.{chars-nil, chars-append, chars-encodes}
-use Rattle.md_expr_tree.specs.declared.tree.Expr.{Expr}
-use Rattle.md_expr_tree.specs.Grammar.{all_of}
-use Rattle.md_expr_parse.specs.declared.read.ReadError.{ReadError}
-use Rattle.md_expr_parse.specs.declared.read.ReadError.TheVariants as error
-use Rattle.md_expr_plain.specs.Plain.{is_word, word_test, of_words}
 
 pub no_characters : (text : List ℕ) → text ≡ [] → chars text ≡ []
 no_characters text e = ap chars e ∙ chars-nil
