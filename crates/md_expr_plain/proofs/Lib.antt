@@ -1,3 +1,3 @@
 mod Fits
-mod Splits
+mod Texts
 pub mod Well

@@ -15,7 +15,7 @@ use std::alloc::{AllocError, Global};
 /// The most bytes of an expression's text, and of a plain search text.
 pub const MOST_BYTES: usize = 65_536;
 
-#[tactic(auto, using(crate::proofs::Splits::no_characters))]
+#[tactic(auto, using(crate::proofs::Texts::no_characters))]
 fn empty(alloc: Global) -> Result<Text, AllocError>
     ensures { IfOk result (λ text. text ≡ []) }
 {

@@ -1,7 +1,7 @@
 use Rattle.std.proofs.Common.{rules, ◌≡◌, ◌++◌, string_bytes}
 use Rattle.std.specs.Char.{encode_utf8}
 use Rattle.std.proofs.lemmas.Str.{IsUtf8-string_bytes}
-use Rattle.md_expr_plain.proofs.Splits.{pushed}
+use Rattle.md_expr_plain.proofs.Texts.{pushed}
 use Rattle.md_expr_plain.proofs.words.push.Goals as goal
 
 pub returns : goal.returns

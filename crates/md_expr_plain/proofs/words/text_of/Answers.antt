@@ -1,6 +1,6 @@
 use Rattle.std.proofs.Common.{rules, ◌<◌, length, arith}
 use Rattle.std.proofs.lemmas.Str.{chars-nil}
-use Rattle.md_expr_plain.proofs.Splits.{turned}
+use Rattle.md_expr_plain.proofs.Texts.{turned}
 use Rattle.md_expr_plain.proofs.words.text_of.Goals as goal
 
 pub loop-c-init : goal.loop-c-init
