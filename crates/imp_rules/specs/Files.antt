@@ -4,27 +4,27 @@ use Rattle.std.specs.List.{list_all, fold}
 use Rattle.std.specs.Borrow.{Bor}
 use Rattle.md_value.specs.Attrs.{Attr, put}
 use Rattle.md_value.specs.Name.{is_name}
+use Rattle.md_value.specs.Schema.{schema}
 use Rattle.md_value.specs.declared.fault.Fault.{Fault}
 use Rattle.md_value.specs.declared.schema.Rule.{Rule}
-use Rattle.md_value.specs.declared.schema.TheConstants.{SCHEMA}
 use Rattle.md_value.specs.declared.value.Value.{Value}
 use Rattle.md_value.specs.declared.value.Value.TheVariants as value
 use Rattle.imp_rules.specs.Faults.{made_of, all_given}
 
+-- the attributes with these values at the name, in place of older ones
+unfoldable pub with_values : List Attr → List ℕ → List Value → List Attr
+with_values attrs name values = put attrs name values
+
 -- the attributes with these values at the name, and as they are where there is no value
-abbrev pub put_given : List Attr → Attr → List Attr
-put_given attrs (name, []) = attrs
-put_given attrs (name, first ∷ more) = put attrs name (first ∷ more)
+abbrev pub with_given : List Attr → Attr → List Attr
+with_given attrs (name, []) = attrs
+with_given attrs (name, first ∷ more) = with_values attrs name (first ∷ more)
 
 -- an attribute of the schema: its name and its rule
 abbrev pub Known : Type 0
 Known = List ℕ × Rule
 
--- all of them, ascending by name
-unfoldable pub schema : List Known
-schema = map (λ known. (known.0.now, known.1)) SCHEMA
-
--- the same of entries that are lent
+-- that of an entry that is lent
 abbrev pub known_of : Bor (List ℕ) × Rule → Known
 known_of entry = (entry.0.now, entry.1)
 
@@ -49,8 +49,12 @@ given_of giving knowns = all_given (map (attribute_of giving) (filter is_from_fi
 
 -- the attributes that a file sets, or the first fault in the order of the names
 unfoldable pub file_attributes : Giving → Result (List Attr) Fault
-file_attributes giving = made_of (fold put_given []) (given_of giving schema)
+file_attributes giving = made_of (fold with_given []) (given_of giving schema)
+
+-- one text
+abbrev pub text : List ℕ → List Value
+text bytes = value.Text (chars bytes) ∷ []
 
 -- the attributes with this text content
-unfoldable pub with_content : List ℕ → List Attr → List Attr
-with_content text attrs = put attrs (codes "kMDItemTextContent") (value.Text (chars text) ∷ [])
+abbrev pub with_content : List ℕ → List Attr → List Attr
+with_content bytes attrs = with_values attrs (codes "kMDItemTextContent") (text bytes)

@@ -1,19 +1,19 @@
-// Values put at the names that a file gives them.
-ghost use Rattle.std.specs.Prelude.{◌≡◌, IfOk, OnOk, OnErr, IsTrue, codes, All, false};
+// Values put at names.
+ghost use Rattle.std.specs.Prelude.{◌≡◌, ◌<◌, ◌∷◌, [], IfOk, OnOk, OnErr, IsTrue, All, false, length};
 ghost use Rattle.md_value.specs.Name.{is_name};
 ghost use Rattle.md_value.specs.Values.{IsInRange, is_mixed};
-ghost use Rattle.imp_rules.specs.Files.{put_given, with_content};
+ghost use Rattle.imp_rules.specs.Files.{with_values, with_given, with_content, text};
 
 use crate::text_value;
 use md_value::{Attrs, Items, Memory, Name, NameError, PutError, Value};
 use std::alloc::Global;
 
 // The name of an attribute that is known.
-pub(crate) fn known_name(alloc: Global, text: &str) -> Result<Name, Memory>
-    requires { IsTrue (is_name text.now) }
-    ensures { IfOk result (λ name. name ≡ text.now) }
+pub(crate) fn known_name(alloc: Global, name: &str) -> Result<Name, Memory>
+    requires { IsTrue (is_name name.now) }
+    ensures { IfOk result (λ made. made ≡ name.now) }
 {
-    match Name::read(alloc, text) {
+    match Name::read(alloc, name) {
         Ok(name) => Ok(name),
         Err(NameError::Bad) => unreachable!(),
         Err(NameError::Memory) => Err(Memory),
@@ -21,14 +21,11 @@ pub(crate) fn known_name(alloc: Global, text: &str) -> Result<Name, Memory>
 }
 
 // Sets the values, where there are some.
-pub(crate) fn put_given(
-    attrs: &mut Attrs,
-    name: Name,
-    values: Items<Value>,
-) -> Result<(), Memory>
+#[tactic(auto, unfolding(crate::specs::Files::with_values))]
+pub(crate) fn put_given(attrs: &mut Attrs, name: Name, values: Items<Value>) -> Result<(), Memory>
     requires in_range { All IsInRange values }
     requires one_kind { is_mixed values ≡ false }
-    ensures ok { OnOk result (attrs.new ≡ put_given attrs.old (name, values)) }
+    ensures ok { OnOk result (attrs.new ≡ with_given attrs.old (name, values)) }
     ensures err { OnErr result (attrs.new ≡ attrs.old) }
 {
     match attrs.put(name, values.into_vec()) {
@@ -38,14 +35,55 @@ pub(crate) fn put_given(
     }
 }
 
-/// Sets the text content.
-#[tactic(auto, unfolding(crate::specs::Files::with_content))]
-pub fn put_content(alloc: Global, attrs: &mut Attrs, text: &str) -> Result<(), Memory>
-    ensures ok { OnOk result (attrs.new ≡ with_content text.now attrs.old) }
+/// Sets the values of a name that is one, in place of older ones.
+#[tactic(auto, unfolding(crate::specs::Files::with_values))]
+pub fn put_values(
+    alloc: Global,
+    attrs: &mut Attrs,
+    name: &str,
+    values: Items<Value>,
+) -> Result<(), Memory>
+    requires name { IsTrue (is_name name.now) }
+    requires some { 0 < length values }
+    requires in_range { All IsInRange values }
+    requires one_kind { is_mixed values ≡ false }
+    ensures ok { OnOk result (attrs.new ≡ with_values attrs.old name.now values) }
     ensures err { OnErr result (attrs.new ≡ attrs.old) }
 {
-    let name = known_name(alloc, "kMDItemTextContent")?;
+    let name = known_name(alloc, name)?;
+    match attrs.put(name, values.into_vec()) {
+        Ok(()) => Ok(()),
+        Err(PutError::Empty | PutError::Mixed) => unreachable!(),
+        Err(PutError::Memory) => Err(Memory),
+    }
+}
+
+/// Sets one value of a name that is one, in place of older ones.
+pub fn put_value(alloc: Global, attrs: &mut Attrs, name: &str, value: Value) -> Result<(), Memory>
+    requires name { IsTrue (is_name name.now) }
+    requires in_range { IsInRange value }
+    ensures ok { OnOk result (attrs.new ≡ with_values attrs.old name.now (value ∷ [])) }
+    ensures err { OnErr result (attrs.new ≡ attrs.old) }
+{
     let mut values = Items::new(alloc);
-    values.push(text_value(alloc, text)?)?;
-    put_given(attrs, name, values)
+    values.push(value)?;
+    put_values(alloc, attrs, name, values)
+}
+
+/// Sets one text of a name that is one, in place of older ones.
+pub fn put_text(alloc: Global, attrs: &mut Attrs, name: &str, bytes: &str) -> Result<(), Memory>
+    requires { IsTrue (is_name name.now) }
+    ensures ok { OnOk result (attrs.new ≡ with_values attrs.old name.now (text bytes.now)) }
+    ensures err { OnErr result (attrs.new ≡ attrs.old) }
+{
+    let value = text_value(alloc, bytes)?;
+    put_value(alloc, attrs, name, value)
+}
+
+/// Sets the text content.
+pub fn put_content(alloc: Global, attrs: &mut Attrs, bytes: &str) -> Result<(), Memory>
+    ensures ok { OnOk result (attrs.new ≡ with_content bytes.now attrs.old) }
+    ensures err { OnErr result (attrs.new ≡ attrs.old) }
+{
+    put_text(alloc, attrs, "kMDItemTextContent", bytes)
 }

@@ -17,12 +17,7 @@ pub fn text_value(alloc: Global, text: &str) -> Result<Value, Memory>
 
 /// The moment of an ISO 8601 text, for the attribute of this name. A date alone is the first second of that day at
 /// `offset`, in minutes by which local time is ahead of UTC. `BadDate` comes exactly where the text is no date.
-pub fn date_value(
-    alloc: Global,
-    name: &Name,
-    text: &str,
-    offset: i32,
-) -> Result<Value, FillFault>
+pub fn date_value(alloc: Global, name: &Name, text: &str, offset: i32) -> Result<Value, FillFault>
     ensures { Answers result (date_value name.now text.now offset) }
 {
     match read_moment(text, offset) {
