@@ -1,8 +1,12 @@
 -- The values that a JSON value gives an attribute, and what holds of them.
-use Rattle.std.proofs.Common.{◌≡◌, ℕ, ℤ, ◌<◌, Bool, true, false, List, [], ◌∷◌, ◌++◌, length, get_or, drop, map, filter, All, Option, Some, None, Result, Ok, Err, refl, sym, ap, ◌∙◌, cond, subst, chars}
+use Rattle.std.proofs.Common.{◌≡◌, ℕ, ℤ, ◌<◌, Bool, true, false, List, [], ◌∷◌, length, get_or, drop, map, filter, Option, Some, None, Result, Ok, Err, refl, sym, ap, ◌∙◌, cond, subst, chars, is_some, ◌+◌}
+use Rattle.std.proofs.lemmas.List.{at_drop_more}
+use Rattle.md_value.specs.Attrs.{Attr}
+use Rattle.imp_rules.specs.Content.{joined}
+use Rattle.imp_rules.specs.Files.{file_attributes, with_content}
+use Rattle.imp_json.specs.Strings.{strings}
 use Rattle.std.specs.List.{AllByRecursion}
 use Rattle.std.specs.Option.{ok_or}
-use Rattle.md_value.specs.Values.{IsInRange, kind_of}
 use Rattle.md_value.specs.declared.fault.Fault.{Fault}
 use Rattle.md_value.specs.declared.fault.Fault.TheVariants.{NotSingle}
 use Rattle.md_value.specs.declared.schema.Rule.{Rule}
@@ -10,14 +14,15 @@ use Rattle.md_value.specs.declared.value.Kind.{Kind}
 use Rattle.md_value.specs.declared.value.Kind.TheVariants as kind
 use Rattle.md_value.specs.declared.value.Value.{Value}
 use Rattle.md_value.specs.declared.value.Value.TheVariants as value
-use Rattle.serde_json.specs.Data.{Data, Num, null, boolean, number, string, array, object, Items, no_items, item}
-use Rattle.serde_json.specs.Find.{as_i64, as_str, as_number}
-use Rattle.serde_json.specs.View.{items_of}
+use Rattle.serde_json.specs.Data.{Data, Num, null, boolean, number, string, array, object}
+use Rattle.serde_json.specs.Find.{as_i64, as_str, as_number, as_object}
+use Rattle.serde_json.specs.View.{view, items_of}
+use Rattle.serde_json.specs.declared.value.Value.{Value as Json}
 use Rattle.imp_rules.specs.Faults.{made_of, given_then, all_given}
 use Rattle.imp_rules.specs.Values.{date_value}
 use Rattle.imp_rules.proofs.Given.{IsOf, given_each}
 use Rattle.imp_rules.proofs.Dates.{date_good}
-use Rattle.imp_json.specs.Objects.{list_of, is_given, text_of, number_of, moment_of, value_of, values_of}
+use Rattle.imp_json.specs.Objects.{list_of, is_given, value_of, values_of, giving_of, attributes_of}
 
 pub list_of-items_of : (ds : List Data) → list_of (items_of ds) ≡ ds
 list_of-items_of [] = refl
@@ -62,3 +67,28 @@ values_good offset name rule (boolean b) vs e = one_good rule.kind (value_of off
 values_good offset name rule (number n) vs e = one_good rule.kind (value_of offset name rule.kind (number n)) vs (value_good offset name rule.kind (number n)) e
 values_good offset name rule (string s) vs e = one_good rule.kind (value_of offset name rule.kind (string s)) vs (value_good offset name rule.kind (string s)) e
 values_good offset name rule (object ms) vs e = one_good rule.kind (value_of offset name rule.kind (object ms)) vs (value_good offset name rule.kind (object ms)) e
+
+-- the next member of an array, which is not null
+pub member_next : (f : Data → Result Value Fault) (members : List Json) (i : ℕ) (member : Json) → i < length members → member ≡ get_or members i member → is_given (view member) ≡ true
+    → all_given (map f (filter is_given (map view (drop i members)))) ≡ all_given (f (view member) ∷ map f (filter is_given (map view (drop (i + 1) members))))
+member_next f members i member lt is given =
+    let rest = filter is_given (map view (drop (i + 1) members)) in
+    at_drop_more (λ xs. all_given (map f (filter is_given (map view xs)))) members i member lt ∙ ap (λ next. all_given (map f (filter is_given (view next ∷ map view (drop (i + 1) members))))) (sym is)
+    ∙ ap (λ b. all_given (map f (cond b (view member ∷ rest) rest))) given
+
+-- an array gives many values
+pub array_given : (offset : ℤ) (name : List ℕ) (rule : Rule) (d : Data) (ds : List Data) → d ≡ array (items_of ds) → rule.many ≡ true
+    → values_of offset name rule d ≡ all_given (map (value_of offset name rule.kind) (filter is_given ds))
+array_given offset name rule d ds is many =
+    let all = λ (xs : List Data). all_given (map (value_of offset name rule.kind) (filter is_given xs)) in
+    ap (values_of offset name rule) is ∙ ap (λ b. cond b (all (list_of (items_of ds))) (Err (NotSingle name))) many ∙ ap all (list_of-items_of ds)
+
+-- an object gives the attributes of its members, with its strings as text content
+pub object_given : (offset : ℤ) (d : Data) (text : List ℕ) (attrs : List Attr) → is_some (as_object d) ≡ true → file_attributes (giving_of offset d) ≡ Ok attrs → text ≡ joined (strings d)
+    → attributes_of offset (Some d) ≡ Ok (with_content text attrs)
+object_given offset (object ms) text attrs is given content = rw (given, content) refl
+object_given offset null text attrs is given content = absurd (cc)
+object_given offset (boolean b) text attrs is given content = absurd (cc)
+object_given offset (number n) text attrs is given content = absurd (cc)
+object_given offset (string s) text attrs is given content = absurd (cc)
+object_given offset (array ds) text attrs is given content = absurd (cc)

@@ -1,5 +1,5 @@
 -- The attributes that the text of a JSON object gives.
-use Rattle.std.specs.Prelude.{ℕ, ℤ, Bool, List, [], ◌∷◌, map, filter, chars, if◌then◌else◌, Option, Some, None, is_none, Result, Ok, Err}
+use Rattle.std.specs.Prelude.{ℕ, ℤ, Bool, List, [], ◌∷◌, map, filter, chars, if◌then◌else◌, not, Option, Some, None, is_some, Result, Ok, Err}
 use Rattle.std.specs.Option.{ok_or, option_map_or}
 use Rattle.md_value.specs.Attrs.{Attr}
 use Rattle.md_value.specs.declared.fault.Fault.{Fault}
@@ -9,7 +9,7 @@ use Rattle.md_value.specs.declared.value.Kind.{Kind}
 use Rattle.md_value.specs.declared.value.Kind.TheVariants as kind
 use Rattle.md_value.specs.declared.value.Value.{Value}
 use Rattle.md_value.specs.declared.value.Value.TheVariants as value
-use Rattle.serde_json.specs.Data.{Data, null, boolean, number, string, array, object, Items, no_items, item}
+use Rattle.serde_json.specs.Data.{Data, null, array, object, Items, no_items, item}
 use Rattle.serde_json.specs.Find.{get, as_null, as_number, as_str, as_i64}
 use Rattle.serde_json.specs.Read.{read}
 use Rattle.imp_rules.specs.Content.{joined}
@@ -25,7 +25,7 @@ list_of (item d ds) = d ∷ list_of ds
 
 -- not null
 abbrev pub is_given : Data → Bool
-is_given d = is_none (as_null d)
+is_given d = not (is_some (as_null d))
 
 -- the text of a string
 abbrev pub text_of : List ℕ → Data → Result Value Fault

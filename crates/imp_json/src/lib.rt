@@ -7,3 +7,6 @@ mod strings;
 mod values;
 
 pub use attributes::fill;
+
+#[cfg(test)]
+mod tests;

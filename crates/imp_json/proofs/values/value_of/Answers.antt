@@ -9,4 +9,4 @@ pub returns-in-Number : goal.returns-in-Number
 returns-in-Number c = rw c.in-Number.is c.number_of.ensures
 
 pub returns-in-Moment : goal.returns-in-Moment
-returns-in-Moment c = let fits : FitsSigned w32 c.args.offset = c.ranges.offset.sfits in rw c.in-Moment.is (simp to_z-of_z at c.moment_of.ensures)
+returns-in-Moment c = let fits : FitsSigned w32 c.args.offset = c.ranges.offset in rw c.in-Moment.is (simp to_z-of_z at c.moment_of.ensures)

@@ -1,4 +1,4 @@
-use Rattle.std.proofs.Common.{◌≡◌, All, FitsSigned, w32, false}
+use Rattle.std.proofs.Common.{◌≡◌, All, false}
 use Rattle.md_value.specs.Values.{IsInRange, is_mixed}
 use Rattle.imp_rules.proofs.Given.{if_ok, in_range, one_kind}
 use Rattle.imp_json.proofs.Objects.{values_good}
