@@ -1,10 +1,10 @@
 -- A text is read as the whole number that it writes.
-use Rattle.std.proofs.Common.{◌≡◌, ◌≢◌, ℕ, ◌<◌, ◌≤◌, ◌^◌, ◌==◌, ◌&&◌, Bool, true, false, not, nat_lt, List, [], ◌∷◌, length, get_or, Option, Some, None, Result, Ok, Err, ℤ, pos, neg_ℤ, cond, arith, rules, refl, sym, ◌∙◌, w64}
+use Rattle.std.proofs.Common.{◌≡◌, ◌≢◌, ℕ, ◌<◌, ◌≤◌, ◌^◌, ◌==◌, ◌&&◌, Bool, true, false, not, nat_lt, List, [], ◌∷◌, length, get_or, Some, None, Result, Ok, Err, ℤ, pos, neg_ℤ, cond, arith, rules, refl, sym, ◌∙◌, w64}
 use Rattle.std.specs.Option.{option_and_then}
 use Rattle.std.specs.Result.{OkIff, result_ok}
 use Rattle.std.specs.Str.{all_ascii_digits}
 use Rattle.std.specs.Str.Parse.{ParsesSigned}
-use Rattle.std.proofs.lemmas.Bool.{and_parts, cases_Bool}
+use Rattle.std.proofs.lemmas.Bool.{and_parts}
 use Rattle.std.proofs.lemmas.Bool.Decides.{nat_tests}
 use Rattle.std.proofs.lemmas.Str.Parse.{IsNumeralModel, numerals_by_fold, parse_signed_minus, parse_signed_plain}
 use Rattle.md_time.specs.IsoTexts.{number_after}
@@ -58,18 +58,18 @@ below_is ds false = refl
 plain_number : {E : Type 0} (ds : List ℕ) (r : Result ℤ E) → OkIff r (Digits ds × (0 < length ds) × (number_after 0 ds < 2 ^ 63)) (pos (number_after 0 ds)) → result_ok r ≡ option_and_then above_zero (digits_number ds)
 plain_number ds r h =
     by_test r (pos (number_after 0 ds)) (are_digits ds && nat_lt (number_after 0 ds) (2 ^ 63)) h (λ t.
-      let parts = and_parts (are_digits ds) (nat_lt (number_after 0 ds) (2 ^ 63)) t in
-      let digits = and_parts (not (length ds == 0)) (all_ascii_digits ds) parts.0 in
-      (digits.1, some (length ds) digits.0, below (number_after 0 ds) (2 ^ 63) parts.1))
+    let parts = and_parts (are_digits ds) (nat_lt (number_after 0 ds) (2 ^ 63)) t in
+    let digits = and_parts (not (length ds == 0)) (all_ascii_digits ds) parts.0 in
+    (digits.1, some (length ds) digits.0, below (number_after 0 ds) (2 ^ 63) parts.1))
     (λ p. rw (not_none (length ds) p.1, p.0, is_below (number_after 0 ds) (2 ^ 63) p.2) refl)
     ∙ sym (above_is ds (are_digits ds))
 
 minus_number : {E : Type 0} (ds : List ℕ) (r : Result ℤ E) → OkIff r (Digits ds × (0 < length ds) × (number_after 0 ds ≤ 2 ^ 63)) (neg_ℤ (pos (number_after 0 ds))) → result_ok r ≡ option_and_then below_zero (digits_number ds)
 minus_number ds r h =
     by_test r (neg_ℤ (pos (number_after 0 ds))) (are_digits ds && not (nat_lt (2 ^ 63) (number_after 0 ds))) h (λ t.
-      let parts = and_parts (are_digits ds) (not (nat_lt (2 ^ 63) (number_after 0 ds))) t in
-      let digits = and_parts (not (length ds == 0)) (all_ascii_digits ds) parts.0 in
-      (digits.1, some (length ds) digits.0, most (number_after 0 ds) (2 ^ 63) parts.1))
+    let parts = and_parts (are_digits ds) (not (nat_lt (2 ^ 63) (number_after 0 ds))) t in
+    let digits = and_parts (not (length ds == 0)) (all_ascii_digits ds) parts.0 in
+    (digits.1, some (length ds) digits.0, most (number_after 0 ds) (2 ^ 63) parts.1))
     (λ p. rw (not_none (length ds) p.1, p.0, is_most (number_after 0 ds) (2 ^ 63) p.2) refl)
     ∙ sym (below_is ds (are_digits ds))
 

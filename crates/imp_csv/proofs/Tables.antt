@@ -1,5 +1,5 @@
 -- Records, columns and the values in them.
-use Rattle.std.proofs.Common.{◌≡◌, ◌⊎◌, inl, inr, ℕ, ◌+◌, ◌<◌, ◌==◌, Bool, true, false, not, nat_lt, List, [], ◌∷◌, ◌++◌, length, get_or, map, Option, Some, None, Result, Ok, Err, String, Global, string_bytes, ℤ, cond, chars, arith, refl, sym, ap, ◌∙◌, subst, append-nil, pos, codes}
+use Rattle.std.proofs.Common.{◌≡◌, ℕ, ◌+◌, ◌<◌, ◌==◌, Bool, true, false, not, List, [], ◌∷◌, ◌++◌, length, get_or, map, Option, Some, None, Ok, Err, String, Global, string_bytes, ℤ, cond, chars, arith, refl, ap, ◌∙◌, subst, append-nil, pos, codes}
 use Rattle.std.specs.List.{AllByRecursion, position, flat_map}
 use Rattle.std.specs.Option.{ok_or, option_map}
 use Rattle.md_value.specs.declared.fault.Fault.{Fault}

@@ -1,5 +1,5 @@
 -- The attributes that a CSV text gives.
-use Rattle.std.specs.Prelude.{ℕ, ◌+◌, ◌<◌, ℤ, pos, Bool, not, ◌==◌, ◌&&◌, nat_lt, List, [], ◌∷◌, length, drop, map, filter, get_or, chars, codes, if◌then◌else◌, Option, Some, None, Result, Ok, Err}
+use Rattle.std.specs.Prelude.{ℕ, ◌+◌, ℤ, pos, Bool, not, ◌==◌, ◌&&◌, nat_lt, List, [], ◌∷◌, length, map, filter, chars, codes, if◌then◌else◌, Option, Some, None, Result, Ok, Err}
 use Rattle.std.specs.List.{flat_map, position, zip}
 use Rattle.std.specs.Option.{ok_or, option_map}
 use Rattle.csv.specs.Reading.{records, default_config, strip_bom}
@@ -13,7 +13,7 @@ use Rattle.md_value.specs.declared.value.Kind.TheVariants as kind
 use Rattle.md_value.specs.declared.value.Value.{Value}
 use Rattle.md_value.specs.declared.value.Value.TheVariants as value
 use Rattle.imp_rules.specs.Content.{joined}
-use Rattle.imp_rules.specs.Faults.{made_of, given_then, all_given}
+use Rattle.imp_rules.specs.Faults.{made_of, all_given}
 use Rattle.imp_rules.specs.Files.{Giving, file_attributes, with_values, with_content}
 use Rattle.imp_rules.specs.Values.{date_value}
 use Rattle.imp_csv.specs.Numbers.{whole_number}

@@ -8,3 +8,6 @@ mod table;
 mod values;
 
 pub use attributes::fill;
+
+#[cfg(test)]
+mod tests;

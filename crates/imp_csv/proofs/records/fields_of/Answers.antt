@@ -1,4 +1,4 @@
-use Rattle.std.proofs.Common.{◌≡◌, Some, None, sym, ap, ◌∙◌, ◌++◌, ◌∷◌, []}
+use Rattle.std.proofs.Common.{◌≡◌, Some, None, sym, ap, ◌∙◌}
 use Rattle.csv.specs.Records.{fields_of, field_at}
 use Rattle.csv.proofs.RecordFacts.{text-of}
 use Rattle.imp_csv.proofs.Texts.{take_field, take_fields}
@@ -8,9 +8,10 @@ pub loop-field-preserved : goal.loop-field-preserved
 loop-field-preserved c =
     let step = c.in-Some.ensures.steps in
     let inv = c.loop-field.invariant in
-    let field : field_at (fields_of c.args.row.now) c.loop-field.field-iterator.at ≡ Some c.in-Some.field.now = rw inv.0 at (sym step.1) in
-    (ap (λ row. row.now) step.0 ∙ inv.0,
-      rw (step.2, take_field (fields_of c.args.row.now) c.loop-field.field-iterator.at c.in-Some.field.now field, ← inv.1, ← c.in-Ok.ensures.cases.0) c.in_ok-push-in-Ok.ensures.ok)
+    let field : field_at (fields_of c.args.row.now) c.loop-field.field-iterator.at ≡ Some c.in-Some.field.now = rw inv.0 at (sym step.1) in (
+      ap (λ row. row.now) step.0 ∙ inv.0,
+      rw (step.2, take_field (fields_of c.args.row.now) c.loop-field.field-iterator.at c.in-Some.field.now field, ← inv.1, ← c.in-Ok.ensures.cases.0) c.in_ok-push-in-Ok.ensures.ok,
+    )
 
 pub unreachable-requires : goal.unreachable-requires
 unreachable-requires c =

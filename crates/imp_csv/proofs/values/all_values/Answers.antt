@@ -1,4 +1,4 @@
-use Rattle.std.proofs.Common.{◌≡◌, ◌++◌, ◌∷◌, map, drop, string_bytes, sym, ap, ◌∙◌, FitsSigned, w32, ◌+◌}
+use Rattle.std.proofs.Common.{◌++◌, ◌∷◌, map, drop, string_bytes, sym, ap, ◌∙◌, FitsSigned, w32, ◌+◌}
 use Rattle.std.proofs.lemmas.Int.{to_z-of_z}
 use Rattle.std.proofs.lemmas.List.{at_drop_more}
 use Rattle.std.proofs.lemmas.Result.{err_from_is_err_and}
