@@ -6,7 +6,7 @@ ghost use Rattle.md_expr_tree.specs.declared.tree.Test.TheVariants.{Compare, Ran
 ghost use Rattle.md_expr_print.specs.Spell.{op_text, subject_text, test_text};
 
 use crate::literals::push_literal;
-use crate::out::{push_str, push_text};
+use crate::pushes::{push_str, push_text};
 use md_expr_tree::{Literal, Op, Subject, Test};
 use md_value::Name;
 use std::alloc::AllocError;

@@ -5,7 +5,7 @@ ghost use Rattle.md_expr_print.specs.Literals.{join};
 ghost use Rattle.md_expr_print.specs.Spell.{in_all, in_any, in_group, spell, spelling};
 
 use crate::comparisons::push_test;
-use crate::out::{push_between, push_str};
+use crate::pushes::{push_between, push_str};
 use md_expr_tree::Expr;
 use md_value::Memory;
 use std::alloc::{AllocError, Global};

@@ -5,7 +5,7 @@ mod comparisons;
 mod exprs;
 mod laws;
 mod literals;
-mod out;
+mod pushes;
 #[cfg(test)]
 mod tests;
 

@@ -4,7 +4,7 @@ ghost use Rattle.std.specs.Char.{is_ascii};
 ghost use Rattle.std.specs.List.{flat_map, list_all};
 ghost use Rattle.md_expr_print.specs.Literals.{counted, count_text, decimals, escape, fraction_text, join, literal_text, minus, modifier, number_text, time_text, words_text};
 
-use crate::out::{push, push_between, push_number, push_signed, push_str};
+use crate::pushes::{push, push_between, push_number, push_signed, push_str};
 use md_expr_tree::Literal;
 use md_time::{Form, IsoText};
 use md_value::Text;
