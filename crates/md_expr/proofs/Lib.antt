@@ -2,4 +2,3 @@ pub mod Answered
 pub mod Lexed
 pub mod Outcomes
 pub mod Readings
-pub mod Well

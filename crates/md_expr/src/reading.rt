@@ -7,12 +7,10 @@ ghost use Rattle.md_expr.specs.Outcome.{outcome, IsAnswer};
 
 use md_expr_lex::{characters, tokens_of};
 use md_expr_parse::{ReadError, read_tokens};
+use md_expr_plain::MOST_BYTES;
 use md_expr_tree::Expr;
 use std::alloc::Global;
 use std::collections::VecDeque;
-
-/// The most bytes of an expression's text.
-pub const MOST_BYTES: usize = 65_536;
 
 /// The expression that the text reads as. The grammar and its meaning stand in `docs/EXPRESSIONS.md`.
 ///

@@ -300,3 +300,68 @@ fn limits(rt: HostRuntime) -> Result<(), Fail> {
     }
     Ok(())
 }
+
+/// What is printed of what the text reads as.
+fn printed(alloc: Global, text: &str) -> Result<String, Fail> {
+    let expr = read(alloc, text)?;
+    Ok(print(alloc, &expr)?)
+}
+
+#[test]
+fn spellings(rt: HostRuntime) -> Result<(), Fail> {
+    let alloc = rt.alloc();
+    let rows = [
+        ("kMDItemFSName='a'", "kMDItemFSName == \"a\""),
+        (
+            "!(a==1)&&InRange(b,1,$time.now)",
+            "!(a == 1) && InRange(b, 1, $time.now)",
+        ),
+        ("a=1&&(b<2||*=='x'dc)", "a == 1 && (b < 2 || * == \"x\"cd)"),
+        ("((a == 01.50))", "a == 1.5"),
+        ("* != *", "* != *"),
+        ("_a1=*", "_a1 == *"),
+        ("a>1&&b<=2&&c>=3", "a > 1 && b <= 2 && c >= 3"),
+        (
+            "a='say \"hi\" it\\'s \\\\ \\* x*y'd",
+            "a == \"say \\\"hi\\\" it's \\\\ \\* x*y\"d",
+        ),
+        ("a=\"\"||b='*'c", "a == \"\" || b == \"*\"c"),
+        ("a='**\u{fc}\u{1f600}'", "a == \"**\u{fc}\u{1f600}\""),
+        ("a == -0.0", "a == 0"),
+        ("a=-007.500", "a == -7.5"),
+        ("a=100", "a == 100"),
+        ("a=-0.000000001", "a == -0.000000001"),
+        ("a=1.050000000", "a == 1.05"),
+        ("a=-9223372036854775808", "a == -9223372036854775808"),
+        (
+            "a=9223372036854775806.999999999",
+            "a == 9223372036854775806.999999999",
+        ),
+        ("a == $time.yesterday", "a == $time.today(-1)"),
+        ("a == $time.now(+0)", "a == $time.now"),
+        ("a == $time.today(-0)", "a == $time.today"),
+        ("a == $time.this_week(+2)", "a == $time.this_week(2)"),
+        ("a == $time.this_month(-012)", "a == $time.this_month(-12)"),
+        (
+            "a<$time.this_year(-9223372036854775808)",
+            "a < $time.this_year(-9223372036854775808)",
+        ),
+        (
+            "InRange (InRange,-1.50,$time.iso(2024-03-15T10:00:00+0100))",
+            "InRange(InRange, -1.5, $time.iso(2024-03-15T10:00:00+0100))",
+        ),
+        ("(a=1&&b=2)||c=3", "a == 1 && b == 2 || c == 3"),
+        ("(a=1&&b=2)&&c=3", "(a == 1 && b == 2) && c == 3"),
+        ("(a=1||b=2)||c=3", "(a == 1 || b == 2) || c == 3"),
+        ("a=1&&(b=2||(c=3))", "a == 1 && (b == 2 || c == 3)"),
+        ("!((a=1)&&b=2)||(c=3)", "!(a == 1 && b == 2) || c == 3"),
+        ("!(!(a=1||b=2))", "!(!(a == 1 || b == 2))"),
+    ];
+    for (text, spelling) in rows {
+        let once = printed(alloc, text)?;
+        assert_eq!(rt; once.as_str(), spelling);
+        let twice = printed(alloc, once.as_str())?;
+        assert_eq!(rt; twice.as_str(), spelling);
+    }
+    Ok(())
+}
