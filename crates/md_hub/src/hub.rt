@@ -39,13 +39,15 @@ pub struct Hub {
 
 impl Model for Hub {
     ghost use Rattle.md_machine.specs.States.{State};
-    ghost use Rattle.md_machine.specs.Codes.{state_code};
     ghost use Rattle.md_hub.specs.States.{state_of};
     ghost use Rattle.md_hub.specs.Sound.{IsSound};
 
     ghost Value = { State };
 
-    ghost coded = { state_code };
+    ghost use Rattle.md_expr_tree.specs.contracts.tree.Expr as expr;
+    ghost use Rattle.std.specs.Coded.{codes};
+
+    ghost coded = { Prim.hlevel (codes, expr.the_row.coded) };
 
     ghost view = { λ h. state_of h.limits h.version h.table.items h.drawn h.tickets.items h.stamps.items h.queries.items };
 

@@ -1,9 +1,8 @@
 -- Small runs, whose replies are computed.
-use Rattle.std.proofs.Common.{◌≡◌, ℕ, zero, suc, drop, true, false, List, [], ◌∷◌, ◌++◌, refl, ap}
-use Rattle.std.specs.Prelude.{Option, None, Some, codes, pos}
+use Rattle.std.proofs.Common.{◌≡◌, ℕ, zero, suc, drop, true, false, List, [], ◌∷◌, ◌++◌, refl}
+use Rattle.std.specs.Prelude.{None, Some, codes, pos}
 use Rattle.md_value.specs.Attrs.{Attr}
 use Rattle.md_value.specs.Values.{is_same, is_before}
-use Rattle.md_value.specs.Path.{is_inside}
 use Rattle.md_value.specs.declared.value.Value.TheVariants as value
 use Rattle.md_world.specs.declared.Row.{Row}
 use Rattle.md_world.specs.declared.Part.{Part}
@@ -15,9 +14,9 @@ use Rattle.md_machine.specs.declared.Spec.{Spec}
 use Rattle.md_machine.specs.declared.Event.{Event}
 use Rattle.md_machine.specs.declared.Event.TheVariants as event
 use Rattle.md_machine.specs.declared.Reply.TheVariants as reply
-use Rattle.md_machine.specs.Answers.{keeps, answer}
+use Rattle.md_machine.specs.Answers.{answer}
 use Rattle.md_expr_tree.specs.declared.tree.Expr.{Expr}
-use Rattle.md_machine.specs.Runs.{run, entries, told, held}
+use Rattle.md_machine.specs.Runs.{run}
 
 abbrev standard : Limits
 standard = record { paths = 1000000; tickets = 4294967295; queries = 64; disables = 1000 }

@@ -1,5 +1,5 @@
 -- What a query answers on a table, and how its answers on two tables differ.
-use Rattle.std.specs.Prelude.{ℕ, Bool, List, [], ◌&&◌, None, filter, map, ℤ}
+use Rattle.std.specs.Prelude.{ℕ, Bool, List, ◌&&◌, None, filter, map, ℤ}
 use Rattle.md_value.specs.Path.{is_inside}
 use Rattle.md_value.specs.Values.{PathBytes}
 use Rattle.md_expr_tree.specs.declared.tree.Expr.{Expr}

@@ -1,5 +1,5 @@
 -- The forms of time of an expression, and the first that is out of range.
-use Rattle.std.specs.Prelude.{ℕ, ◌+◌, List, [], ◌∷◌, ◌++◌, Option, Some, None, is_none, ℤ, if◌then◌else◌}
+use Rattle.std.specs.Prelude.{ℕ, ◌+◌, ◌-◌, ◌^◌, min, List, [], ◌∷◌, ◌++◌, Option, Some, None, is_none, ℤ, if◌then◌else◌}
 use Rattle.md_time.specs.declared.form.Form.{Form}
 use Rattle.md_time.specs.Moments.{moment_of}
 use Rattle.md_expr_tree.specs.declared.tree.Literal.{Literal}
@@ -9,6 +9,8 @@ use Rattle.md_expr_tree.specs.declared.tree.Test.TheVariants as test
 use Rattle.md_expr_tree.specs.declared.tree.Expr.{Expr}
 use Rattle.md_expr_tree.specs.declared.tree.Expr.TheOpen.{Expr-F}
 use Rattle.md_expr_tree.specs.declared.tree.Expr.TheFolds.{fold-Expr}
+use Rattle.md_match.specs.declared.forms.Searched.{Searched}
+use Rattle.md_match.specs.declared.forms.Searched.TheVariants.{Out, InRange}
 
 abbrev pub forms_of_literal : Literal → List Form
 forms_of_literal (literal.Time form) = form ∷ []
@@ -42,3 +44,12 @@ first_out_from n now offset (form ∷ fs) = if is_none (moment_of form now offse
 -- the number from 1, in reading order, of the first form whose moment is out of range
 abbrev pub first_out_of_range : ℤ → ℤ → Expr → Option ℕ
 first_out_of_range now offset e = first_out_from 1 now offset (forms e)
+
+-- a number, or the greatest one that is told
+abbrev pub capped : ℕ → ℕ
+capped n = min n (2 ^ 32 - 1)
+
+-- how far a search of these forms comes, after so many that are in range
+abbrev pub searched : ℤ → ℤ → ℕ → List Form → Searched
+searched now offset seen [] = InRange seen
+searched now offset seen (form ∷ fs) = if is_none (moment_of form now offset) then Out (capped (seen + 1)) else searched now offset (capped (seen + 1)) fs

@@ -1,6 +1,7 @@
 // Filters of rows.
 ghost use Rattle.std.specs.Prelude.{◌≡◌, ℕ, IfOk, IsErrOf, Some, None};
-ghost use Rattle.md_match.specs.Forms.{first_out_of_range};
+ghost use Rattle.std.specs.Option.{option_map};
+ghost use Rattle.md_match.specs.Forms.{first_out_of_range, capped};
 ghost use Rattle.md_match.specs.Conditions.{passes};
 ghost use Rattle.md_match.specs.declared.filter.FilterError.TheVariants.{Memory};
 
@@ -45,7 +46,7 @@ impl Model for Filter {
 #[derive(Clone, Copy, Debug, PartialEq, Eq)]
 pub enum FilterError {
     /// The moment of a form of time is out of range. The forms are numbered from 1 in reading order, and this is the
-    /// first such form.
+    /// first such form, or 4,294,967,295 where its number is greater.
     TimeOutOfRange(u32),
     Memory,
 }
@@ -58,21 +59,11 @@ impl From<AllocError> for FilterError {
     }
 }
 
-fn out_of_range(which: usize) -> FilterError
-    ensures { (number : ℕ) → result ≡ FilterError.TimeOutOfRange number → number ≡ which }
-{
-    match u32::try_from(which) {
-        Ok(number) => FilterError::TimeOutOfRange(number),
-        Err(_) => FilterError::Memory,
-    }
-}
-
 impl Filter {
     /// The filter of the rows inside the scope that satisfy the expression, whose forms of time are told from `now`, in
     /// seconds since 1970 in UTC, at `offset`, the minutes by which local time is ahead of UTC.
     ///
-    /// `TimeOutOfRange` comes exactly where the moment of some form is out of range; in its place `Memory` comes where
-    /// the first such form has a number over 4,294,967,295.
+    /// `TimeOutOfRange` comes exactly where the moment of some form is out of range.
     pub fn new(
         alloc: Global,
         expr: &Expr,
@@ -82,14 +73,10 @@ impl Filter {
     ) -> Result<Filter, FilterError>
         ensures made { IfOk result (λ f. f ≡ record { expr = expr.now; moment = now; offset = offset; scope = scope.now }) }
         ensures in_range { IfOk result (λ _. first_out_of_range now offset expr.now ≡ None) }
-        ensures out_of_range { (which : ℕ) → IsErrOf result (FilterError.TimeOutOfRange which) → first_out_of_range now offset expr.now ≡ Some which }
+        ensures out_of_range { (which : ℕ) → IsErrOf result (FilterError.TimeOutOfRange which) → option_map capped (first_out_of_range now offset expr.now) ≡ Some which }
     {
-        let local = Local {
-            moment: now,
-            offset,
-        };
-        if let Some(which) = first_out_of_range(alloc, expr, &local)? {
-            return Err(out_of_range(which));
+        if let Some(which) = first_out_of_range(expr, now, offset) {
+            return Err(FilterError::TimeOutOfRange(which));
         }
         Ok(Filter::of(alloc, expr, now, offset, scope)?)
     }

@@ -1,61 +1,20 @@
-// The forms of time of an expression.
-ghost use Rattle.std.specs.Prelude.{◌≡◌, ◌++◌, map, is_none, IfOk, OnOk};
+// The first form of time of an expression that is out of range.
+ghost use Rattle.std.specs.Prelude.{◌≡◌, ◌∷◌, ◌++◌, [], is_none, map};
+ghost use Rattle.std.specs.Option.{option_map};
 ghost use Rattle.md_time.specs.Moments.{moment_of};
-ghost use Rattle.md_match.specs.Forms.{forms_of_literal, forms_of_test, joined, forms, first_out_from, first_out_of_range};
+ghost use Rattle.md_match.specs.Forms.{forms_of_literal, forms_of_test, joined, forms, first_out_of_range, capped, searched};
 
 use crate::local::Local;
 use md_expr_tree::{Expr, Literal, Test};
 use md_time::Form;
-use sqlite_items::Items;
-use std::alloc::{AllocError, Global};
 
-fn push_literal(literal: &Literal, found: &mut Items<Form>) -> Result<(), AllocError>
-    ensures { OnOk result (found.new ≡ found.old ++ forms_of_literal literal.now) }
-{
-    if let Literal::Time(form) = literal {
-        found.push(*form)?;
-    }
-    Ok(())
-}
-
-fn push_test(test: &Test, found: &mut Items<Form>) -> Result<(), AllocError>
-    ensures { OnOk result (found.new ≡ found.old ++ forms_of_test test.now) }
-{
-    match test {
-        Test::Compare { literal, .. } => push_literal(literal, found)?,
-        Test::Range {
-            least,
-            greatest,
-            ..
-        } => {
-            push_literal(least, found)?;
-            push_literal(greatest, found)?;
-        }
-    }
-    Ok(())
-}
-
-#[cycle(found)]
-fn push_all(list: &[Expr], found: &mut Items<Form>) -> Result<(), AllocError>
-    ensures { OnOk result (found.new ≡ found.old ++ joined (map forms list.now)) }
-{
-    for e in list {
-        push_forms(e, found)?;
-    }
-    Ok(())
-}
-
-#[cycle(found)]
-fn push_forms(expr: &Expr, found: &mut Items<Form>) -> Result<(), AllocError>
-    ensures { OnOk result (found.new ≡ found.old ++ forms expr.now) }
-{
-    match expr {
-        Expr::Test(test) => push_test(test, found)?,
-        Expr::Not(inner) => push_forms(inner.get(), found)?,
-        Expr::All(list) => push_all(list.as_slice(), found)?,
-        Expr::Any(list) => push_all(list.as_slice(), found)?,
-    }
-    Ok(())
+/// How far a search for a form that is out of range has come. Numbers stop at the greatest one.
+#[derive(Clone, Copy, Debug, Drop)]
+pub enum Searched {
+    /// The form of this number is the first that is out of range.
+    Out(u32),
+    /// So many forms were seen, and all are in range.
+    InRange(u32),
 }
 
 fn is_out_of_range(form: &Form, local: &Local) -> bool
@@ -64,26 +23,93 @@ fn is_out_of_range(form: &Form, local: &Local) -> bool
     form.moment(local.moment, local.offset).is_err()
 }
 
-fn first_out(found: &[Form], local: &Local) -> Option<usize>
-    ensures { result ≡ first_out_from 1 local.now.moment local.now.offset found.now }
+fn in_form(form: &Form, local: &Local, seen: u32) -> Searched
+    ensures { result ≡ searched local.now.moment local.now.offset seen (form.now ∷ []) }
 {
-    for (place, form) in found.iter().enumerate() {
-        if is_out_of_range(form, local) {
-            return Some(place + 1);
-        }
+    let number = seen.saturating_add(1);
+    if is_out_of_range(form, local) {
+        Searched::Out(number)
+    } else {
+        Searched::InRange(number)
     }
-    None
 }
 
-/// The number from 1, in reading order, of the first form of time whose moment is out of range.
-pub fn first_out_of_range(
-    alloc: Global,
-    expr: &Expr,
-    local: &Local,
-) -> Result<Option<usize>, AllocError>
-    ensures { IfOk result (λ first. first ≡ first_out_of_range local.now.moment local.now.offset expr.now) }
+fn in_literal(literal: &Literal, local: &Local, seen: u32) -> Searched
+    ensures { result ≡ searched local.now.moment local.now.offset seen (forms_of_literal literal.now) }
 {
-    let mut found = Items::new(alloc);
-    push_forms(expr, &mut found)?;
-    Ok(first_out(found.as_slice(), local))
+    match literal {
+        Literal::Time(form) => in_form(form, local, seen),
+        _ => Searched::InRange(seen),
+    }
+}
+
+#[tactic(auto, using(crate::proofs::Times::search_append))]
+fn in_range(least: &Literal, greatest: &Literal, local: &Local, seen: u32) -> Searched
+    ensures { result ≡ searched local.now.moment local.now.offset seen (forms_of_literal least.now ++ forms_of_literal greatest.now) }
+{
+    match in_literal(least, local, seen) {
+        Searched::Out(number) => Searched::Out(number),
+        Searched::InRange(seen) => in_literal(greatest, local, seen),
+    }
+}
+
+fn in_test(test: &Test, local: &Local, seen: u32) -> Searched
+    ensures { result ≡ searched local.now.moment local.now.offset seen (forms_of_test test.now) }
+{
+    match test {
+        Test::Compare { literal, .. } => in_literal(literal, local, seen),
+        Test::Range {
+            least,
+            greatest,
+            ..
+        } => in_range(least, greatest, local, seen),
+    }
+}
+
+#[cycle(search)]
+fn in_all(list: &[Expr], local: &Local, seen: u32) -> Searched
+    ensures { result ≡ searched local.now.moment local.now.offset seen (joined (map forms list.now)) }
+{
+    let mut seen = seen;
+    for e in list {
+        match in_expr(e, local, seen) {
+            Searched::Out(number) => return Searched::Out(number),
+            Searched::InRange(more) => seen = more,
+        }
+    }
+    Searched::InRange(seen)
+}
+
+#[cycle(search)]
+fn in_expr(expr: &Expr, local: &Local, seen: u32) -> Searched
+    ensures { result ≡ searched local.now.moment local.now.offset seen (forms expr.now) }
+{
+    match expr {
+        Expr::Test(test) => in_test(test, local, seen),
+        Expr::Not(inner) => in_expr(inner.get(), local, seen),
+        Expr::All(list) => in_all(list.as_slice(), local, seen),
+        Expr::Any(list) => in_all(list.as_slice(), local, seen),
+    }
+}
+
+fn first_out(expr: &Expr, local: &Local) -> Option<u32>
+    ensures { result ≡ option_map capped (first_out_of_range local.now.moment local.now.offset expr.now) }
+{
+    match in_expr(expr, local, 0) {
+        Searched::Out(number) => Some(number),
+        Searched::InRange(_) => None,
+    }
+}
+
+/// The number from 1, in reading order, of the first form of time whose moment is out of range, where the forms are told
+/// from `now`, in seconds since 1970 in UTC, at `offset`, the minutes by which local time is ahead of UTC. In place of a
+/// number over 4,294,967,295 it is that. Takes no memory.
+pub fn first_out_of_range(expr: &Expr, now: i64, offset: i32) -> Option<u32>
+    ensures { result ≡ option_map capped (first_out_of_range now offset expr.now) }
+{
+    let local = Local {
+        moment: now,
+        offset,
+    };
+    first_out(expr, &local)
 }

@@ -10,6 +10,7 @@ mod ready;
 mod wanted;
 
 pub use filter::{Filter, FilterError};
+pub use forms::first_out_of_range;
 
 #[cfg(test)]
 mod tests;

@@ -1,4 +1,3 @@
-pub mod Asking
 pub mod FirstLine
 pub mod Numerals
 pub mod Outcomes

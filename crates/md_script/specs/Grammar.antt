@@ -5,8 +5,7 @@ use Rattle.std.specs.Str.{is_utf8}
 use Rattle.md_script.specs.declared.script.What.{What}
 use Rattle.md_script.specs.declared.script.What.TheVariants as what
 use Rattle.md_script.specs.Lines.{first_word, after_word}
-use Rattle.md_script.specs.Words.{client_of, query_number, path_of, file_of, content_of}
-use Rattle.md_script.specs.Names.{name_of}
+use Rattle.md_script.specs.Words.{client_of, query_number, path_of, file_of, content_of, expression_of}
 
 -- `put PATH CONTENT` or `put PATH`
 unfoldable pub put_of : List ℕ → Option What
@@ -18,7 +17,7 @@ remove_of rest = option_map (λ path. what.Remove path) (path_of rest)
 
 -- `cC query N where EXPRESSION`
 unfoldable pub query_of : ℕ → List ℕ → Option What
-query_of client rest = option_and_then (λ number. option_map (λ name. what.Query client number name) (name_of (after_word rest))) (query_number (first_word rest))
+query_of client rest = option_and_then (λ number. option_map (λ expr. what.Query client number expr) (expression_of (after_word rest))) (query_number (first_word rest))
 
 -- `cC gather N`
 unfoldable pub gather_of : ℕ → List ℕ → Option What

@@ -1,12 +1,15 @@
--- The numbers, paths and contents of a line.
+-- The numbers, paths, contents and expressions of a line.
 use Rattle.std.specs.Prelude.{ℕ, ◌==◌, ◌-◌, ◌^◌, nat_lt, nat_le, Bool, not, ◌&&◌, if◌then◌else◌, List, [], ◌∷◌, length, drop, codes, Option, Some, None, nat_eq}
 use Rattle.std.specs.Option.{option_and_then}
+use Rattle.std.specs.Result.{result_ok}
 use Rattle.std.specs.List.{list_all, list_any, starts_with}
-use Rattle.std.specs.Char.{is_ascii, is_ascii_digit}
+use Rattle.std.specs.Char.{is_ascii_digit}
 use Rattle.std.specs.Str.{is_utf8, str_eq_ignore_ascii_case}
 use Rattle.std.specs.Str.Parse.{digits_value}
 use Rattle.md_value.specs.Path.{is_bad, normal}
 use Rattle.md_script.specs.declared.words.TheConstants.{MOST_CONTENT}
+use Rattle.md_expr_tree.specs.declared.tree.Expr.{Expr}
+use Rattle.md_expr.specs.Outcome.{outcome}
 use Rattle.md_script.specs.Lines.{is_space}
 use Rattle.md_script.specs.Escapes.{unescaped}
 
@@ -27,9 +30,9 @@ client_of (b ∷ digits) = if b == 99 then number_below 256 digits else None
 unfoldable pub query_number : List ℕ → Option ℕ
 query_number text = number_below (2 ^ 32) text
 
--- a text that is read as the path of a file or a folder, and has ASCII characters alone
+-- a text that is read as the path of a file or a folder
 unfoldable pub is_path : List ℕ → Bool
-is_path text = is_utf8 text && (list_all is_ascii text && (not (is_bad text) && not (length (normal text) == 0)))
+is_path text = is_utf8 text && (not (is_bad text) && not (length (normal text) == 0))
 
 -- the path that one word writes
 unfoldable pub path_of : List ℕ → Option (List ℕ)
@@ -50,3 +53,7 @@ content_of rest = option_and_then (λ text. if is_utf8 text && nat_le (length te
 -- what follows a beginning
 unfoldable pub without_prefix : List ℕ → List ℕ → Option (List ℕ)
 without_prefix prefix text = if starts_with nat_eq text prefix then Some (drop (length prefix) text) else None
+
+-- the expression of `where EXPRESSION`
+unfoldable pub expression_of : List ℕ → Option Expr
+expression_of text = option_and_then (λ expression. if is_utf8 expression then result_ok (outcome expression) else None) (without_prefix (codes "where ") text)

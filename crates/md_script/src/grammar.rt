@@ -4,8 +4,7 @@ ghost use Rattle.md_script.specs.Grammar.{put_of, remove_of, query_of, gather_of
 
 use crate::What;
 use crate::lines::split_word;
-use crate::names::name_of;
-use crate::words::{client_of, content_of, file_of, is_text, path_of, query_number};
+use crate::words::{client_of, content_of, expression_of, file_of, is_text, path_of, query_number};
 use std::alloc::{AllocError, Global};
 
 #[tactic(auto, unfolding(crate::specs::Grammar::put_of))]
@@ -40,11 +39,11 @@ fn query_of(alloc: Global, client: u8, rest: &[u8]) -> Result<Option<What>, Allo
     let Some(number) = query_number(word) else {
         return Ok(None);
     };
-    match name_of(alloc, rest)? {
-        Some(name) => Ok(Some(What::Query {
+    match expression_of(alloc, rest)? {
+        Some(expr) => Ok(Some(What::Query {
             client,
             number,
-            name,
+            expr,
         })),
         None => Ok(None),
     }

@@ -6,7 +6,6 @@ mod escapes;
 mod grammar;
 mod laws;
 mod lines;
-mod names;
 mod read;
 mod script;
 mod words;

@@ -3,20 +3,20 @@ ghost use Rattle.std.specs.Prelude.{◌≡◌};
 ghost use Rattle.md_script.specs.declared.script.ScriptError.TheVariants.{Memory};
 
 use crate::Content;
-use md_value::{Items, Path, Text};
+use md_expr::Expr;
+use md_value::{Items, Path};
 use std::alloc::{AllocError, AllocFailed};
 use std::marker::Model;
 
 /// What a line of a script says.
-#[derive(Debug, Drop)]
+#[derive(Drop)]
 pub enum What {
     /// `put PATH CONTENT`: a job whose file has this content. The path ends in `.txt`, in any case.
     Put { path: Path, text: Content },
     /// `remove PATH`: a job that removes the path.
     Remove { path: Path },
-    /// `cC query N where EXPRESSION`: the client's query of this number asks for the files of a name. The expression
-    /// compares `kMDItemFSName` by `==` with that name, a string of ASCII characters, no wildcard and no modifiers.
-    Query { client: u8, number: u32, name: Text },
+    /// `cC query N where EXPRESSION`: the client's query of this number asks for the files that satisfy the expression.
+    Query { client: u8, number: u32, expr: Expr },
     /// `cC gather N`
     Gather { client: u8, number: u32 },
     /// `cC poll N`
@@ -24,7 +24,7 @@ pub enum What {
 }
 
 /// A line that says something.
-#[derive(Debug, Drop)]
+#[derive(Drop)]
 pub struct Line {
     /// Its place among all lines of the script, from 1.
     pub number: u32,
@@ -32,7 +32,7 @@ pub struct Line {
 }
 
 /// The lines of a script that say something. Contracts see it as their list.
-#[derive(Debug, Drop)]
+#[derive(Drop)]
 pub struct Script {
     lines: Items<Line>,
 }
@@ -42,6 +42,11 @@ impl Model for Script {
     ghost use Rattle.md_script.specs.declared.script.Line.{Line};
 
     ghost Value = { List Line };
+
+    ghost use Rattle.md_expr_tree.specs.contracts.tree.Expr as expr;
+    ghost use Rattle.std.specs.Coded.{codes};
+
+    ghost coded = { Prim.hlevel (codes, expr.the_row.coded) };
 
     ghost view = { λ s. s.lines };
 }

@@ -13,8 +13,11 @@ fn line_text(alloc: Global, line: &Line) -> Result<String, Fail> {
         What::Query {
             client,
             number: query,
-            name,
-        } => { format!(in alloc; "{number} {client} query {query} [{}]\n", name.as_str())? }
+            expr,
+        } => {
+            let expr = md_expr::print(alloc, expr)?;
+            format!(in alloc; "{number} {client} query {query} [{expr}]\n")?
+        }
         What::Gather {
             client,
             number: query,
@@ -47,7 +50,7 @@ fn shown(alloc: Global, bytes: &[u8]) -> Result<String, Fail> {
 #[test]
 fn reads_lines(rt: HostRuntime) -> Result<(), Fail> {
     let alloc = rt.alloc();
-    let rows: [(&[u8], &str); 45] = [
+    let rows: [(&[u8], &str); 39] = [
         (b"", ""),
         (b"\n# note\n\nput a.txt one", "4 put a.txt [one]\n"),
         (b"put a.txt\n", "1 put a.txt []\n"),
@@ -68,7 +71,7 @@ fn reads_lines(rt: HostRuntime) -> Result<(), Fail> {
         (b"put /a.txt x", "bad 1"),
         (b"put a.csv x", "bad 1"),
         (b"put  a.txt x", "bad 1"),
-        (b"put \xc3\xa9.txt x", "bad 1"),
+        (b"put \xc3\xa9.txt x", "1 put é.txt [x]\n"),
         (b"put", "bad 1"),
         (b"remove a.csv\r\n\r\n", "1 remove a.csv\n"),
         (b"remove a b", "bad 1"),
@@ -83,31 +86,31 @@ fn reads_lines(rt: HostRuntime) -> Result<(), Fail> {
         (b"c0 poll 1 ", "bad 1"),
         (
             b"c0 query 1 where kMDItemFSName == \"a.txt\"",
-            "1 0 query 1 [a.txt]\n",
+            "1 0 query 1 [kMDItemFSName == \"a.txt\"]\n",
         ),
         (
             b"c0 query 1 where kMDItemFSName == \"\"",
-            "1 0 query 1 []\n",
+            "1 0 query 1 [kMDItemFSName == \"\"]\n",
         ),
         (
             b"c0 query 1 where  kMDItemFSName\t= 'a b\"\\*\\\\' ",
-            "1 0 query 1 [a b\"*\\]\n",
+            "1 0 query 1 [kMDItemFSName == \"a b\\\"\\*\\\\\"]\n",
         ),
         (
             b"c0 query 1 where (kMDItemFSName=\"'\")",
-            "1 0 query 1 [']\n",
+            "1 0 query 1 [kMDItemFSName == \"'\"]\n",
         ),
-        (b"c0 query 1 where kMDItemFSName == \"*\"", "bad 1"),
-        (b"c0 query 1 where kMDItemFSName == \"a\"c", "bad 1"),
-        (b"c0 query 1 where kMDItemFSName == \"\xc3\xa9\"", "bad 1"),
-        (b"c0 query 1 where kMDItemFSName != \"a\"", "bad 1"),
-        (b"c0 query 1 where kMDItemFSName == 1", "bad 1"),
-        (b"c0 query 1 where kMDItemTitle == \"a\"", "bad 1"),
-        (b"c0 query 1 where * == \"a\"", "bad 1"),
-        (b"c0 query 1 where !(kMDItemFSName == \"a\")", "bad 1"),
         (
-            b"c0 query 1 where kMDItemFSName == \"a\" && a == 1",
-            "bad 1",
+            b"c0 query 1 where kMDItemFSName == \"*\"",
+            "1 0 query 1 [kMDItemFSName == \"*\"]\n",
+        ),
+        (
+            b"c0 query 1 where kMDItemFSName == \"\xc3\xa9\"c",
+            "1 0 query 1 [kMDItemFSName == \"é\"c]\n",
+        ),
+        (
+            b"c0 query 1 where !(a==1)||InRange(b,-1.50,$time.today)",
+            "1 0 query 1 [!(a == 1) || InRange(b, -1.5, $time.today)]\n",
         ),
         (b"c0 query 1 where a == 1 && b", "bad 1"),
         (b"c0 query 1 where", "bad 1"),

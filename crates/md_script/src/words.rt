@@ -1,17 +1,18 @@
-// The numbers, paths and contents of a line.
+// The numbers, paths, contents and expressions of a line.
 ghost use Rattle.std.specs.Prelude.{◌≡◌, ◌==◌, ◌&&◌, length, nat_le, IfOk, Some, None, if◌then◌else◌};
 ghost use Rattle.std.specs.Option.{option_map};
 ghost use Rattle.std.specs.List.{list_all, list_any};
-ghost use Rattle.std.specs.Char.{is_ascii, is_ascii_digit};
+ghost use Rattle.std.specs.Char.{is_ascii_digit};
 ghost use Rattle.std.specs.Str.{is_utf8};
 ghost use Rattle.md_value.specs.Path.{normal};
 ghost use Rattle.md_script.specs.Lines.{is_space};
 ghost use Rattle.md_script.specs.declared.words.TheConstants.{MOST_CONTENT};
-ghost use Rattle.md_script.specs.Words.{is_numeral, number_below, client_of, query_number, is_path, path_of, is_plain_text, file_of, content_of, without_prefix};
+ghost use Rattle.md_script.specs.Words.{is_numeral, number_below, client_of, query_number, is_path, path_of, is_plain_text, file_of, content_of, without_prefix, expression_of};
 
 use crate::Content;
 use crate::escapes::unescaped;
 use crate::lines::first;
+use md_expr::{Expr, ReadError, read};
 use md_value::{Path, PathError};
 use std::alloc::{AllocError, Global};
 use std::str;
@@ -88,12 +89,6 @@ pub fn client_of(word: &[u8]) -> Option<u8>
     client_number(digits)
 }
 
-fn is_ascii(text: &[u8]) -> bool
-    ensures { result ≡ list_all is_ascii text.now }
-{
-    text.iter().all(|b| b.is_ascii())
-}
-
 fn has_space(word: &[u8]) -> bool
     ensures { result ≡ list_any is_space word.now }
 {
@@ -116,9 +111,6 @@ fn read_path(alloc: Global, text: &[u8]) -> Result<Option<Path>, AllocError>
     let Some(text) = text_of(text) else {
         return Ok(None);
     };
-    if !is_ascii(text.as_bytes()) {
-        return Ok(None);
-    }
     match Path::read(alloc, text) {
         Ok(path) => Ok(below_root(path)),
         Err(PathError::Bad) => Ok(None),
@@ -187,8 +179,26 @@ pub fn content_of(alloc: Global, rest: &[u8]) -> Result<Option<Content>, AllocEr
 
 /// What follows the beginning, if the text begins so.
 #[tactic(auto, unfolding(crate::specs::Words::without_prefix))]
-pub fn without_prefix<'a>(prefix: &[u8], text: &'a [u8]) -> Option<&'a [u8]>
+fn without_prefix<'a>(prefix: &[u8], text: &'a [u8]) -> Option<&'a [u8]>
     ensures { option_map (λ rest. rest.now) result ≡ without_prefix prefix.now text.now }
 {
     text.strip_prefix(prefix)
+}
+
+/// The expression of a query's `where EXPRESSION`.
+#[tactic(auto, unfolding(crate::specs::Words::expression_of), using(md_expr::proofs::Outcomes::outcome_read, md_expr::proofs::Outcomes::outcome_refused))]
+pub fn expression_of(alloc: Global, text: &[u8]) -> Result<Option<Expr>, AllocError>
+    ensures { IfOk result (λ expr. expr ≡ expression_of text.now) }
+{
+    let Some(expression) = without_prefix(b"where ", text) else {
+        return Ok(None);
+    };
+    let Some(expression) = text_of(expression) else {
+        return Ok(None);
+    };
+    match read(alloc, expression) {
+        Ok(expr) => Ok(Some(expr)),
+        Err(ReadError::Memory) => Err(AllocError),
+        Err(_) => Ok(None),
+    }
 }

@@ -6,6 +6,7 @@ use Rattle.md_tool.specs.declared.top.Status.TheVariants as status
 abbrev pub code_of : Status → ℕ
 code_of status.Ok = 0
 code_of status.Usage = 1
+code_of status.Expression = 2
 code_of status.ReadFault = 3
 code_of status.WriteFault = 4
 code_of status.Memory = 5

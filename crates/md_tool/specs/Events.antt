@@ -1,5 +1,5 @@
 -- The events of a script, one line after the other.
-use Rattle.std.specs.Prelude.{ℕ, List, [], ◌∷◌, ◌++◌, None, Some}
+use Rattle.std.specs.Prelude.{ℕ, ℤ, pos, List, [], ◌∷◌, ◌++◌}
 use Rattle.std.specs.List.{zip}
 use Rattle.md_value.specs.Values.{PathBytes}
 use Rattle.md_world.specs.declared.Change.{Change}
@@ -8,7 +8,7 @@ use Rattle.md_machine.specs.declared.Event.{Event}
 use Rattle.md_machine.specs.declared.Event.TheVariants as event
 use Rattle.md_machine.specs.declared.Reply.{Reply}
 use Rattle.md_machine.specs.declared.Reply.TheVariants as reply
-use Rattle.md_machine.specs.Answers.{name_is}
+use Rattle.md_machine.specs.Answers.{asked}
 use Rattle.md_machine.specs.States.{State}
 use Rattle.md_machine.specs.Steps.{step}
 use Rattle.md_machine.specs.Runs.{Entry, run_from}
@@ -31,18 +31,19 @@ after_draw s change _ = []
 abbrev pub job : State → PathBytes → Change → List Event
 job s path change = event.Draw path ∷ after_draw (step s (event.Draw path)).state change (step s (event.Draw path)).reply
 
--- the events of a line in a state; each is at moment 0
-abbrev pub line_events : State → What → List Event
-line_events s (what.Put path text) = job s path (change.Put (plain_text path text))
-line_events s (what.Remove path) = job s path change.Remove
-line_events s (what.Query client number name) = event.Create client number (name_is name) ∷ []
-line_events s (what.Gather client number) = event.Gather client number 0 ∷ []
-line_events s (what.Poll client number) = event.Poll client number 0 ∷ []
+-- the events of a line in a state: a file that is put was changed now, a query's forms of time are told from now in UTC
+-- and it asks for files anywhere, and each event is at 0 milliseconds
+abbrev pub line_events : ℤ → State → What → List Event
+line_events now s (what.Put path text) = job s path (change.Put (plain_text path text now))
+line_events now s (what.Remove path) = job s path change.Remove
+line_events now s (what.Query client number expr) = event.Create client number (asked expr now (pos 0) []) ∷ []
+line_events now s (what.Gather client number) = event.Gather client number 0 ∷ []
+line_events now s (what.Poll client number) = event.Poll client number 0 ∷ []
 
 -- the events of the lines in turn, from a state
-abbrev pub events_from : State → List Line → List Event
-events_from s [] = []
-events_from s (line ∷ lines) = line_events s line.what ++ events_from (run_from s (line_events s line.what)).last lines
+abbrev pub events_from : ℤ → State → List Line → List Event
+events_from now s [] = []
+events_from now s (line ∷ lines) = line_events now s line.what ++ events_from now (run_from s (line_events now s line.what)).last lines
 
 -- the events from a state, each beside its reply
 abbrev pub entries_from : State → List Event → List Entry

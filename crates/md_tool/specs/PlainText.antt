@@ -1,5 +1,5 @@
 -- The attributes of a plain text file.
-use Rattle.std.specs.Prelude.{ℕ, List, [], ◌∷◌, ◌==◌, fold, length, codes, chars, true, pos, if◌then◌else◌}
+use Rattle.std.specs.Prelude.{ℕ, List, [], ◌∷◌, ◌==◌, fold, length, codes, chars, true, ℤ, pos, if◌then◌else◌}
 use Rattle.std.specs.List.{after_last}
 use Rattle.md_value.specs.Attrs.{Attr, put}
 use Rattle.md_value.specs.Path.{is_slash}
@@ -34,14 +34,14 @@ plain_text_types =
     value.Text (chars (codes "public.plain-text")) ∷ value.Text (chars (codes "public.text")) ∷ value.Text (chars (codes "public.data"))
     ∷ value.Text (chars (codes "public.item")) ∷ value.Text (chars (codes "public.content")) ∷ []
 
--- the attributes of a plain text file with this path and these bytes, which was changed at moment 0
-abbrev pub plain_text : PathBytes → List ℕ → List Attr
-plain_text path bytes =
+-- the attributes of a plain text file with this path and these bytes, which was changed at this moment
+abbrev pub plain_text : PathBytes → List ℕ → ℤ → List Attr
+plain_text path bytes changed =
     with_each (
     (codes "kMDItemContentType", text (codes "public.plain-text"))
     ∷ (codes "kMDItemContentTypeTree", plain_text_types)
     ∷ (codes "kMDItemDisplayName", text (file_name path))
-    ∷ (codes "kMDItemFSContentChangeDate", value.Moment (pos 0) ∷ [])
+    ∷ (codes "kMDItemFSContentChangeDate", value.Moment changed ∷ [])
     ∷ (codes "kMDItemFSName", text (file_name path))
     ∷ (codes "kMDItemFSSize", value.Number (pos (length bytes)) ∷ [])
     ∷ (codes "kMDItemKind", text (codes "Plain Text Document"))

@@ -1,19 +1,18 @@
--- What the words and the script ask to be printed, and what is printed of it.
-use Rattle.std.specs.Prelude.{◌≡◌, ◌⊎◌, ℕ, ◌+◌, ◌≤◌, List, [], ◌∷◌, ◌++◌, length, take, codes, IfSome, Option, Result, Ok, Err}
+-- What the words, the script and the clock ask to be printed, and what is printed of it.
+use Rattle.std.specs.Prelude.{◌≡◌, ◌⊎◌, ℕ, ℤ, List, [], ◌∷◌, ◌++◌, codes, IfSome, Option, None, Some, Result, Ok, Err}
 use Rattle.std.specs.Fmt.{decimal}
-use Rattle.std.specs.Io.KnownBytes.{Consumes, IsAtEnd}
-use Rattle.md_source.specs.Causes.{Rose}
-use Rattle.md_source.specs.Puts.{PutsNothing, PutsWhole, PutsPart}
+use Rattle.std.specs.Io.KnownBytes.{IsAtEnd}
 use Rattle.md_world.specs.declared.TheConstants.Limits.{STANDARD}
 use Rattle.md_machine.specs.States.{opening}
 use Rattle.md_machine.specs.Runs.{entries}
 use Rattle.md_render.specs.Texts.{journal_text}
-use Rattle.md_script.specs.declared.read.TheConstants.{MOST_BYTES}
 use Rattle.md_script.specs.declared.script.Line.{Line}
 use Rattle.md_script.specs.declared.script.ScriptError.{ScriptError}
 use Rattle.md_script.specs.declared.script.ScriptError.TheVariants as error
 use Rattle.md_script.specs.Scripts.{verdict}
 use Rattle.md_tool.specs.Events.{events_from}
+use Rattle.md_tool.specs.TimeForms.{out_of_range}
+use Rattle.md_tool.specs.Outside.{Bytes, Inputs, Outputs, IsRead, IsShown, Fails, ClockFails, TakesNothing, TakesWhole, TakesPart}
 use Rattle.md_tool.specs.declared.top.Status.{Status}
 use Rattle.md_tool.specs.declared.top.Status.TheVariants as status
 
@@ -31,59 +30,60 @@ pub record Report : Type 0 where
 abbrev pub refusal : Status → List ℕ → Report
 refusal answer line = record { status = answer; out = []; err = codes "mdserve: " ++ (line ++ codes "\n") }
 
--- the journal of the run of these lines from the opening state
-abbrev pub journal : List Line → List ℕ
-journal lines = journal_text 1 (entries STANDARD (events_from (opening STANDARD) lines))
+-- what refuses a script
+abbrev pub refused : ScriptError → Report
+refused error.TooLong = refusal status.Script (codes "script too long")
+refused error.TooManyLines = refusal status.Script (codes "script has too many lines")
+refused (error.BadLine number) = refusal status.Script (codes "line " ++ (decimal number ++ codes " not understood"))
+refused error.Memory = refusal status.Memory []
 
-abbrev pub report_of : Result (List Line) ScriptError → Report
-report_of (Ok lines) = record { status = status.Ok; out = journal lines; err = [] }
-report_of (Err error.TooLong) = refusal status.Script (codes "script too long")
-report_of (Err error.TooManyLines) = refusal status.Script (codes "script has too many lines")
-report_of (Err (error.BadLine number)) = refusal status.Script (codes "line " ++ (decimal number ++ codes " not understood"))
-report_of (Err error.Memory) = refusal status.Memory []
+-- the journal of the run of these lines now, from the opening state
+abbrev pub journal : ℤ → List Line → List ℕ
+journal now lines = journal_text 1 (entries STANDARD (events_from now (opening STANDARD) lines))
 
--- The bytes were read from a source to its end, or to one byte past the most that a script has.
-pub record IsRead (left_old left_new : Option (List ℕ)) (bytes : List ℕ) : Type 0 where
-  pub taken : Consumes left_old left_new bytes
-  pub end : length bytes ≤ MOST_BYTES → IsAtEnd left_new
-  pub told : IfSome left_old (λ left. bytes ≡ take (MOST_BYTES + 1) left)
+-- by the first line with a form of time that is out of range, and the form's number
+abbrev pub report_by : ℤ → List Line → Option (ℕ × ℕ) → Report
+report_by now lines None = record { status = status.Ok; out = journal now lines; err = [] }
+report_by now lines (Some (line, form)) =
+    refusal status.Expression (codes "line " ++ (decimal line ++ (codes ": time form " ++ (decimal form ++ codes " out of range"))))
 
--- what the words and the source ask to be printed, the source's count of faults being what it was before and is now
-pub data Asks (words : List (List ℕ)) (left_old left_new : Option (List ℕ)) (before now : ℕ) : Report → Type 0 where
-  usage : ¬ (IsLive words) → left_new ≡ left_old → now ≡ before → Asks words left_old left_new before now (refusal status.Usage (codes "words not understood"))
-  fault : IsLive words → Rose before now → Asks words left_old left_new before now (refusal status.ReadFault (codes "script could not be read"))
-  script : (bytes : List ℕ) → IsLive words → now ≡ before → IsRead left_old left_new bytes → Asks words left_old left_new before now (report_of (verdict bytes))
+-- what the lines ask to be printed now
+abbrev pub report_of : ℤ → List Line → Report
+report_of now lines = report_by now lines (out_of_range now lines)
 
--- the script is read as some lines
-abbrev pub IsAccepted : List ℕ → Type 0
-IsAccepted bytes = (lines : List Line) × (verdict bytes ≡ Ok lines)
+-- What the words, the script and the clock ask to be printed: the first of these, each object being called only where it is named.
+pub data Asks (words : List (List ℕ)) (old new : Inputs) : Report → Type 0 where
+  usage : ¬ (IsLive words) → new ≡ old → Asks words old new (refusal status.Usage (codes "words not understood"))
+  unread : IsLive words → Fails old.script new.script → new.clock ≡ old.clock → Asks words old new (refusal status.ReadFault (codes "script could not be read"))
+  refuses : (bytes : List ℕ) (e : ScriptError) → IsLive words → IsRead old.script new.script bytes → new.clock ≡ old.clock
+      → verdict bytes ≡ Err e → Asks words old new (refused e)
+  unclocked : (bytes : List ℕ) (lines : List Line) → IsLive words → IsRead old.script new.script bytes → verdict bytes ≡ Ok lines
+      → ClockFails old.clock new.clock → Asks words old new (refusal status.ReadFault (codes "clock could not be read"))
+  runs : (bytes : List ℕ) (lines : List Line) (now : ℤ) → IsLive words → IsRead old.script new.script bytes → verdict bytes ≡ Ok lines
+      → IsShown old.clock new.clock now → Asks words old new (report_of now lines)
+
+-- How a run ends: the texts that were asked stand whole on err and then on out; or a put failed, and nothing more was put; or memory ran out, and nothing was put.
+pub data Ends (words : List (List ℕ)) (old new : Inputs) (before after : Outputs) : Status → Type 0 where
+  printed : (report : Report) → Asks words old new report → TakesWhole before.err after.err report.err → TakesWhole before.out after.out report.out
+      → Ends words old new before after report.status
+  stopped_in_err : (report : Report) → Asks words old new report → TakesPart before.err after.err report.err → TakesNothing before.out after.out
+      → Ends words old new before after status.WriteFault
+  stopped_in_out : (report : Report) → Asks words old new report → TakesWhole before.err after.err report.err → TakesPart before.out after.out report.out
+      → Ends words old new before after status.WriteFault
+  no_memory : TakesNothing before.err after.err → TakesNothing before.out after.out → Ends words old new before after status.Memory
 
 -- the script is refused
 abbrev pub IsRefused : List ℕ → Type 0
 IsRefused bytes = (error : ScriptError) × (verdict bytes ≡ Err error)
 
+-- the script is read as lines, of which one has a form of time that is out of range now
+abbrev pub HasFormOut : ℤ → List ℕ → Type 0
+HasFormOut now bytes = (lines : List Line) × (out : ℕ × ℕ) × (verdict bytes ≡ Ok lines) × (out_of_range now lines ≡ Some out)
+
+-- the script is read as lines, with each form of time in range now
+abbrev pub IsAccepted : ℤ → List ℕ → Type 0
+IsAccepted now bytes = (lines : List Line) × (verdict bytes ≡ Ok lines) × (out_of_range now lines ≡ None)
+
 -- memory ran out; or all was printed, and the script was read to its end
 abbrev pub IsComplete : Option (List ℕ) → Status → Type 0
-IsComplete left_new answer = (answer ≡ status.Memory) ⊎ ((answer ≡ status.Ok) × IsAtEnd left_new)
-
--- How a run ends: the texts that were asked stand whole on err and then on out; or a put failed, and nothing more was put; or memory ran out, and nothing was put.
-pub data Ends (words : List (List ℕ))
-    (left_old left_new : Option (List ℕ)) (script_before script_now : ℕ)
-    (err_old err_new : Option (List ℕ)) (err_before err_now : ℕ)
-    (out_old out_new : Option (List ℕ)) (out_before out_now : ℕ)
-    : Status → Type 0 where
-  printed : (report : Report) → Asks words left_old left_new script_before script_now report
-      → PutsWhole err_old err_new err_before err_now report.err
-      → PutsWhole out_old out_new out_before out_now report.out
-      → Ends words left_old left_new script_before script_now err_old err_new err_before err_now out_old out_new out_before out_now report.status
-  stopped_in_err : (report : Report) → Asks words left_old left_new script_before script_now report
-      → PutsPart err_old err_new err_before err_now report.err
-      → PutsNothing out_old out_new out_before out_now
-      → Ends words left_old left_new script_before script_now err_old err_new err_before err_now out_old out_new out_before out_now status.WriteFault
-  stopped_in_out : (report : Report) → Asks words left_old left_new script_before script_now report
-      → PutsWhole err_old err_new err_before err_now report.err
-      → PutsPart out_old out_new out_before out_now report.out
-      → Ends words left_old left_new script_before script_now err_old err_new err_before err_now out_old out_new out_before out_now status.WriteFault
-  no_memory : PutsNothing err_old err_new err_before err_now
-      → PutsNothing out_old out_new out_before out_now
-      → Ends words left_old left_new script_before script_now err_old err_new err_before err_now out_old out_new out_before out_now status.Memory
+IsComplete left answer = (answer ≡ status.Memory) ⊎ ((answer ≡ status.Ok) × IsAtEnd left)

@@ -1,7 +1,7 @@
 // The attributes of a plain text file.
 ghost use Rattle.std.specs.Prelude.{◌≡◌, ◌∷◌, ◌++◌, ◌<◌, ◌≤◌, ◌^◌, [], IfOk, OnOk, true, false, length, chars, codes, pos, All};
 ghost use Rattle.md_value.specs.Name.{is_name};
-ghost use Rattle.md_value.specs.Values.{is_mixed, IsInRange};
+ghost use Rattle.md_value.specs.Values.{is_mixed, IsInRange, IsMoment};
 ghost use Rattle.md_value.specs.declared.value.Value.TheVariants as value;
 ghost use Rattle.md_tool.specs.PlainText.{text, with_values, without_mark, plain_text, plain_text_types};
 
@@ -106,23 +106,35 @@ fn set_size(alloc: Global, attrs: &mut Attrs, bytes: &str) -> Result<(), AllocEr
     set_one(alloc, attrs, "kMDItemFSSize", Value::Number(size))
 }
 
-fn set_change_date(alloc: Global, attrs: &mut Attrs) -> Result<(), AllocError>
-    ensures { OnOk result (attrs.new ≡ with_values attrs.old (codes "kMDItemFSContentChangeDate") (value.Moment (pos 0) ∷ [])) }
+fn set_change_date(alloc: Global, attrs: &mut Attrs, changed: i64) -> Result<(), AllocError>
+    requires { IsMoment changed }
+    ensures { OnOk result (attrs.new ≡ with_values attrs.old (codes "kMDItemFSContentChangeDate") (value.Moment changed ∷ [])) }
 {
-    set_one(alloc, attrs, "kMDItemFSContentChangeDate", Value::Moment(0))
+    set_one(
+        alloc,
+        attrs,
+        "kMDItemFSContentChangeDate",
+        Value::Moment(changed),
+    )
 }
 
-/// The attributes of a plain text file with this path and content, which was changed at moment 0.
-pub(crate) fn plain_text(alloc: Global, path: &Path, content: &str) -> Result<Attrs, AllocError>
-    requires { length content.now < 2 ^ 63 }
-    ensures { IfOk result (λ attrs. attrs ≡ plain_text path.now content.now) }
+/// The attributes of a plain text file with this path and content, which was changed at this moment.
+pub(crate) fn plain_text(
+    alloc: Global,
+    path: &Path,
+    content: &str,
+    changed: i64,
+) -> Result<Attrs, AllocError>
+    requires size { length content.now < 2 ^ 63 }
+    requires moment { IsMoment changed }
+    ensures { IfOk result (λ attrs. attrs ≡ plain_text path.now content.now changed) }
 {
     let mut attrs = Attrs::new(alloc);
     let name = path.name();
     set_text(alloc, &mut attrs, "kMDItemContentType", "public.plain-text")?;
     set_types(alloc, &mut attrs)?;
     set_text(alloc, &mut attrs, "kMDItemDisplayName", name)?;
-    set_change_date(alloc, &mut attrs)?;
+    set_change_date(alloc, &mut attrs, changed)?;
     set_text(alloc, &mut attrs, "kMDItemFSName", name)?;
     set_size(alloc, &mut attrs, content)?;
     set_text(alloc, &mut attrs, "kMDItemKind", "Plain Text Document")?;

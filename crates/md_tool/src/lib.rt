@@ -3,6 +3,7 @@
 
 mod files;
 mod live;
+mod time_forms;
 mod top;
 
 pub use top::{Outcome, Status, run};

@@ -1,7 +1,8 @@
 // The lines of a script, run one after the other.
-ghost use Rattle.std.specs.Prelude.{◌≡◌, ◌+◌, ◌*◌, ◌<◌, ◌≤◌, ◌^◌, ◌∷◌, [], IfOk, OnOk, length, string_bytes};
-ghost use Rattle.md_world.specs.declared.Change.TheVariants as change;
+ghost use Rattle.std.specs.Prelude.{◌≡◌, ◌+◌, ◌*◌, ◌<◌, ◌≤◌, ◌^◌, ◌∷◌, [], IfOk, OnOk, length, pos, string_bytes};
+ghost use Rattle.md_value.specs.Values.{IsMoment};
 ghost use Rattle.md_world.specs.declared.TheConstants.Limits.{STANDARD};
+ghost use Rattle.md_machine.specs.Answers.{asked};
 ghost use Rattle.md_machine.specs.States.{opening};
 ghost use Rattle.md_machine.specs.Steps.{step};
 ghost use Rattle.md_machine.specs.Runs.{entries};
@@ -10,6 +11,7 @@ ghost use Rattle.md_tool.specs.Events.{job, line_events, events_from};
 ghost use Rattle.md_tool.specs.Telling.{Telling, told};
 
 use crate::files::plain_text;
+use md_expr_tree::Expr;
 use md_hub::Hub;
 use md_machine::{Event, Reply, Spec};
 use md_render::entry_text;
@@ -33,7 +35,24 @@ impl Model for Live {
 
     ghost Value = { Telling };
 
+    ghost use Rattle.md_expr_tree.specs.contracts.tree.Expr as expr;
+    ghost use Rattle.std.specs.Coded.{codes};
+
+    ghost coded = { Prim.hlevel (codes, expr.the_row.coded) };
+
     ghost view = { λ l. record { state = l.hub; text = string_bytes l.text; next = l.next } };
+}
+
+// What asks for the files that satisfy the expression now in UTC, anywhere. No form of time is out of range where this
+// is called; if one were, this would answer want of memory.
+fn spec_of(alloc: Global, expr: &Expr, now: i64) -> Result<Spec, AllocError>
+    ensures { IfOk result (λ spec. spec ≡ asked expr.now now (pos 0) []) }
+{
+    let expr = expr.copy(alloc)?;
+    match Spec::new(expr, now, 0, Path::root(alloc)) {
+        Ok(spec) => Ok(spec),
+        Err(_) => Err(AllocError),
+    }
 }
 
 impl Live {
@@ -80,22 +99,23 @@ impl Live {
         Ok(())
     }
 
-    fn line(&mut self, alloc: Global, what: &What) -> Result<(), AllocError>
-        requires { self.old.next + 3 < 2 ^ 64 }
-        ensures { OnOk result (self.new ≡ told self.old (line_events self.old.state what.now)) }
+    fn line(&mut self, alloc: Global, now: i64, what: &What) -> Result<(), AllocError>
+        requires room { self.old.next + 3 < 2 ^ 64 }
+        requires moment { IsMoment now }
+        ensures { OnOk result (self.new ≡ told self.old (line_events now self.old.state what.now)) }
     {
         match what {
             What::Put { path, text } => {
-                let attrs = plain_text(alloc, path, text.as_str())?;
+                let attrs = plain_text(alloc, path, text.as_str(), now)?;
                 self.job(alloc, path, Change::Put(attrs))
             }
             What::Remove { path } => self.job(alloc, path, Change::Remove),
             What::Query {
                 client,
                 number,
-                name,
+                expr,
             } => {
-                let spec = Spec::name_is(alloc, name.copy(alloc)?);
+                let spec = spec_of(alloc, expr, now)?;
                 let event = Event::Create {
                     client: *client,
                     number: *number,
@@ -126,14 +146,15 @@ impl Live {
     }
 }
 
-/// The text of the journal of these lines, run from the opening state.
-pub(crate) fn journal_of(alloc: Global, lines: &[Line]) -> Result<String, AllocError>
-    requires { length lines.now ≤ 100_000 }
-    ensures { IfOk result (λ text. string_bytes text ≡ journal_text 1 (entries STANDARD (events_from (opening STANDARD) lines.now))) }
+/// The text of the journal of these lines, run now from the opening state.
+pub(crate) fn journal_of(alloc: Global, now: i64, lines: &[Line]) -> Result<String, AllocError>
+    requires few { length lines.now ≤ 100_000 }
+    requires moment { IsMoment now }
+    ensures { IfOk result (λ text. string_bytes text ≡ journal_text 1 (entries STANDARD (events_from now (opening STANDARD) lines.now))) }
 {
     let mut live = Live::new(alloc);
     for line in lines {
-        live.line(alloc, &line.what)?;
+        live.line(alloc, now, &line.what)?;
     }
     Ok(live.text)
 }

@@ -1,17 +1,17 @@
-// The top call: from the words and the script to what is printed.
-ghost use Rattle.std.specs.Prelude.{◌≡◌, ◌↔◌, ◌⊎◌, IsTrue, IfOk, IfSome, map, string_bytes, Err};
-ghost use Rattle.std.specs.Io.KnownBytes.{IsAtEnd};
+// The top call: from the words, the script and the clock to what is printed.
+ghost use Rattle.std.specs.Prelude.{◌≡◌, ◌≤◌, ◌↔◌, ◌⊎◌, IsTrue, IfOk, IfSome, length, map, string_bytes, Some};
+ghost use Rattle.md_value.specs.Values.{IsMoment};
 ghost use Rattle.md_source.specs.Causes.{Rose};
-ghost use Rattle.md_script.specs.Scripts.{verdict};
 ghost use Rattle.md_script.specs.declared.script.ScriptError.TheVariants.{BadLine};
 ghost use Rattle.md_tool.specs.Codes.{code_of};
-ghost use Rattle.md_tool.specs.Reports.{IsLive, Asks, Ends, IsAccepted, IsRefused, IsComplete, report_of, refusal};
+ghost use Rattle.md_tool.specs.Reports.{IsLive, Asks, Ends, IsAccepted, IsRefused, HasFormOut, IsComplete, report_by, report_of, refused, refusal};
 ghost use Rattle.md_tool.specs.declared.top.Status.{Status};
 ghost use Rattle.md_tool.specs.declared.top.Status.TheVariants as status;
 
 use crate::live::journal_of;
-use md_script::{MOST_BYTES, ScriptError, read_script};
-use md_source::{PutEnd, Sink, Source, SourceEnd, put_texts, read_all};
+use crate::time_forms::out_of_range;
+use md_script::{Line, MOST_BYTES, ScriptError, read_script};
+use md_source::{Clock, PutEnd, Sink, Source, SourceEnd, put_texts, read_all};
 use std::alloc::{AllocError, Global};
 use std::marker::Model;
 
@@ -22,7 +22,9 @@ pub enum Status {
     Ok,
     /// The words are not understood.
     Usage,
-    /// The script could not be read.
+    /// A form of time of the script is out of range.
+    Expression,
+    /// The script or the clock could not be read.
     ReadFault,
     /// A text could not be written whole.
     WriteFault,
@@ -40,6 +42,7 @@ impl Status {
         match self {
             Status::Ok => 0,
             Status::Usage => 1,
+            Status::Expression => 2,
             Status::ReadFault => 3,
             Status::WriteFault => 4,
             Status::Memory => 5,
@@ -90,80 +93,120 @@ fn refusal(alloc: Global, status: Status, line: &str) -> Result<Printing, AllocE
 }
 
 fn bad_line(alloc: Global, number: u32) -> Result<Printing, AllocError>
-    ensures { IfOk result (λ p. p ≡ report_of (Err (BadLine number))) }
+    ensures { IfOk result (λ p. p ≡ refused (BadLine number)) }
 {
     let line = format!(in alloc; "line {number} not understood")?;
     refusal(alloc, Status::Script, line.as_str())
 }
 
-fn report_of(alloc: Global, bytes: &[u8]) -> Result<Printing, AllocError>
-    ensures { IfOk result (λ p. p ≡ report_of (verdict bytes.now)) }
+// What refuses a script.
+fn refused(alloc: Global, error: ScriptError) -> Result<Printing, AllocError>
+    ensures { IfOk result (λ p. p ≡ refused error) }
 {
-    match read_script(alloc, bytes) {
-        Ok(script) => Ok(Printing {
-            status: Status::Ok,
-            out: journal_of(alloc, script.lines())?,
-            err: String::new(alloc),
-        }),
-        Err(ScriptError::TooLong) => refusal(alloc, Status::Script, "script too long"),
-        Err(ScriptError::TooManyLines) => {
-            refusal(alloc, Status::Script, "script has too many lines")
-        }
-        Err(ScriptError::BadLine(number)) => bad_line(alloc, number),
-        Err(ScriptError::Memory) => Err(AllocError),
+    match error {
+        ScriptError::TooLong => refusal(alloc, Status::Script, "script too long"),
+        ScriptError::TooManyLines => refusal(alloc, Status::Script, "script has too many lines"),
+        ScriptError::BadLine(number) => bad_line(alloc, number),
+        ScriptError::Memory => Err(AllocError),
     }
 }
 
-// What the words and the script ask to be printed.
-fn asked<S: Source>(alloc: Global, words: &[String], script: &mut S) -> Result<Printing, AllocError>
+fn form_out_of_range(alloc: Global, now: i64, lines: &[Line], line: u32, form: u32) -> Result<Printing, AllocError>
+    ensures { IfOk result (λ p. p ≡ report_by now lines.now (Some (line, form))) }
+{
+    let line = format!(in alloc; "line {line}: time form {form} out of range")?;
+    refusal(alloc, Status::Expression, line.as_str())
+}
+
+// What the lines ask to be printed now.
+fn report_of(alloc: Global, now: i64, lines: &[Line]) -> Result<Printing, AllocError>
+    requires few { length lines.now ≤ 100_000 }
+    requires moment { IsMoment now }
+    ensures { IfOk result (λ p. p ≡ report_of now lines.now) }
+{
+    if let Some((line, form)) = out_of_range(now, lines) {
+        return form_out_of_range(alloc, now, lines, line, form);
+    }
+    let out = journal_of(alloc, now, lines)?;
+    Ok(Printing {
+        status: Status::Ok,
+        out,
+        err: String::new(alloc),
+    })
+}
+
+// What the words, the script and the clock ask to be printed.
+fn asked<S: Source, C: Clock>(
+    alloc: Global,
+    words: &[String],
+    script: &mut S,
+    clock: &mut C,
+) -> Result<Printing, AllocError>
     ensures { IfOk result (λ p. Asks (map (λ word. string_bytes word) words.now)
-        (S.left script.old) (S.left script.new) (S.faults script.old) (S.faults script.new) p) }
+        (record { script = record { told = S.left script.old; faults = S.faults script.old }; clock = record { told = C.moment clock.old; faults = C.faults clock.old } })
+        (record { script = record { told = S.left script.new; faults = S.faults script.new }; clock = record { told = C.moment clock.new; faults = C.faults clock.new } })
+        p) }
 {
     if !is_live(words) {
         return refusal(alloc, Status::Usage, "words not understood");
     }
-    match read_all(alloc, script, MOST_BYTES) {
-        Ok(bytes) => {
-            let report = report_of(alloc, &bytes)?;
-            Ok(report)
+    let bytes = match read_all(alloc, script, MOST_BYTES) {
+        Ok(bytes) => bytes,
+        Err(SourceEnd::Failed) => {
+            return refusal(alloc, Status::ReadFault, "script could not be read");
         }
-        Err(SourceEnd::Failed) => { refusal(alloc, Status::ReadFault, "script could not be read") }
-        Err(SourceEnd::Memory) => Err(AllocError),
-    }
+        Err(SourceEnd::Memory) => return Err(AllocError),
+    };
+    let script = match read_script(alloc, &bytes) {
+        Ok(script) => script,
+        Err(error) => return refused(alloc, error),
+    };
+    let now = match clock.now() {
+        Ok(now) => now,
+        Err(_) => return refusal(alloc, Status::ReadFault, "clock could not be read"),
+    };
+    report_of(alloc, now, script.lines())
 }
 
-/// Reads the words and the script, runs the script's lines in order over a server of its own, and prints the journal.
+/// Reads the words, the script and the clock, runs the script's lines in order over a server of its own, and prints
+/// the journal.
 ///
-/// The words are the one word `live`; a script has at most 67,108,864 bytes and 100,000 lines. The whole text for
-/// `err` is put before that for `out`.
-pub fn run<S: Source, K: Sink, E: Sink>(
+/// The words are the one word `live`; a script has at most 67,108,864 bytes and 100,000 lines. The clock is read once,
+/// after the script. The whole text for `err` is put before that for `out`.
+pub fn run<S: Source, C: Clock, K: Sink, E: Sink>(
     alloc: Global,
     words: &[String],
     script: &mut S,
+    clock: &mut C,
     out: &mut K,
     err: &mut E,
 ) -> Outcome
     // What is printed, and the status that goes with it.
     ensures ends { Ends (map (λ word. string_bytes word) words.now)
-        (S.left script.old) (S.left script.new) (S.faults script.old) (S.faults script.new)
-        (E.taken err.old) (E.taken err.new) (E.faults err.old) (E.faults err.new)
-        (K.taken out.old) (K.taken out.new) (K.faults out.old) (K.faults out.new)
+        (record { script = record { told = S.left script.old; faults = S.faults script.old }; clock = record { told = C.moment clock.old; faults = C.faults clock.old } })
+        (record { script = record { told = S.left script.new; faults = S.faults script.new }; clock = record { told = C.moment clock.new; faults = C.faults clock.new } })
+        (record { err = record { told = E.taken err.old; faults = E.faults err.old }; out = record { told = K.taken out.old; faults = K.faults out.old } })
+        (record { err = record { told = E.taken err.new; faults = E.faults err.new }; out = record { told = K.taken out.new; faults = K.faults out.new } })
         result.status }
 
     // The cause of each status.
     ensures usage { result.status ≡ Status.Usage → ¬ (IsLive (map (λ word. string_bytes word) words.now)) }
-    ensures read_fault { result.status ≡ Status.ReadFault → Rose (S.faults script.old) (S.faults script.new) }
+    ensures expression { result.status ≡ Status.Expression → IfSome (S.left script.old) (λ bytes. IfSome (C.moment clock.old) (λ now. HasFormOut now bytes)) }
+    ensures read_fault { result.status ≡ Status.ReadFault
+        → Rose (S.faults script.old) (S.faults script.new) ⊎ Rose (C.faults clock.old) (C.faults clock.new) }
     ensures script { result.status ≡ Status.Script → IfSome (S.left script.old) IsRefused }
     ensures write_fault { result.status ≡ Status.WriteFault
         → Rose (E.faults err.old) (E.faults err.new) ⊎ Rose (K.faults out.old) (K.faults out.new) }
 
-    // Where the words and the script are accepted and no call on the outside failed, all is printed, or memory ran out.
-    ensures complete { IfSome (S.left script.old) (λ bytes. IsLive (map (λ word. string_bytes word) words.now) → IsAccepted bytes
-        → ¬ (Rose (S.faults script.old) (S.faults script.new))
+    // Where the words and the script are accepted, each form of time is in range and no call on the outside failed, all
+    // is printed, or memory ran out.
+    ensures complete { IfSome (S.left script.old) (λ bytes. IfSome (C.moment clock.old) (λ now.
+        IsLive (map (λ word. string_bytes word) words.now) → IsAccepted now bytes
+        → ¬ (Rose (S.faults script.old) (S.faults script.new)) → ¬ (Rose (C.faults clock.old) (C.faults clock.new))
         → ¬ (Rose (E.faults err.old) (E.faults err.new)) → ¬ (Rose (K.faults out.old) (K.faults out.new))
-        → IsComplete (S.left script.new) result.status) }
+        → IsComplete (S.left script.new) result.status)) }
 {
-    let report = match asked(alloc, words, script) {
+    let report = match asked(alloc, words, script, clock) {
         Ok(report) => report,
         Err(_) => {
             return Outcome {

@@ -1,0 +1,59 @@
+-- What is told of the objects of the outside, before a run or after it.
+use Rattle.std.specs.Prelude.{◌≡◌, ℕ, ◌+◌, ◌≤◌, ℤ, List, length, take, IfSome, Option}
+use Rattle.std.specs.Io.KnownBytes.{Consumes, IsAtEnd}
+use Rattle.md_value.specs.Values.{IsMoment}
+use Rattle.md_source.specs.Causes.{Rose}
+use Rattle.md_source.specs.Puts.{PutsNothing, PutsWhole, PutsPart}
+use Rattle.md_script.specs.declared.read.TheConstants.{MOST_BYTES}
+
+-- the bytes that are left in a source, or that a sink has taken, where they are told; and how often it has failed
+pub record Bytes : Type 0 where
+  pub told : Option (List ℕ)
+  pub faults : ℕ
+
+-- the moment that a clock shows, where it is told, and how often it has failed
+pub record Shown : Type 0 where
+  pub told : Option ℤ
+  pub faults : ℕ
+
+-- the script and the clock
+pub record Inputs : Type 0 where
+  pub script : Bytes
+  pub clock : Shown
+
+-- the sinks of the two texts
+pub record Outputs : Type 0 where
+  pub err : Bytes
+  pub out : Bytes
+
+-- The bytes were read from a source to its end, or to one byte past the most that a script has.
+pub record IsRead (old new : Bytes) (bytes : List ℕ) : Type 0 where
+  pub taken : Consumes old.told new.told bytes
+  pub end : length bytes ≤ MOST_BYTES → IsAtEnd new.told
+  pub told : IfSome old.told (λ left. bytes ≡ take (MOST_BYTES + 1) left)
+  pub kept : new.faults ≡ old.faults
+
+-- The clock showed this moment, and did not fail.
+pub record IsShown (old new : Shown) (now : ℤ) : Type 0 where
+  pub range : IsMoment now
+  pub told : IfSome old.told (λ moment. now ≡ moment)
+  pub kept : new.faults ≡ old.faults
+
+-- a source, a sink or a clock failed
+abbrev pub Fails : Bytes → Bytes → Type 0
+Fails old new = Rose old.faults new.faults
+
+abbrev pub ClockFails : Shown → Shown → Type 0
+ClockFails old new = Rose old.faults new.faults
+
+-- no byte was put
+abbrev pub TakesNothing : Bytes → Bytes → Type 0
+TakesNothing old new = PutsNothing old.told new.told old.faults new.faults
+
+-- all of the text was put
+abbrev pub TakesWhole : Bytes → Bytes → List ℕ → Type 0
+TakesWhole old new text = PutsWhole old.told new.told old.faults new.faults text
+
+-- a front of the text was put, and then the sink failed
+abbrev pub TakesPart : Bytes → Bytes → List ℕ → Type 0
+TakesPart old new text = PutsPart old.told new.told old.faults new.faults text
