@@ -1,4 +1,6 @@
-use crate::{Attrs, Copied, Name, NameError, Path, PathError, PutError, Text, Value};
+use crate::{
+    Attrs, Copied, Kind, Name, NameError, Path, PathError, PutError, Text, Value, schema_of,
+};
 use std::alloc::Global;
 use std::test::Fail;
 
@@ -67,5 +69,24 @@ fn keeps_values_by_name(rt: HostRuntime) -> Result<(), Fail> {
     assert!(rt; attrs.has_text("kMDItemTitle", &Text::of(alloc, "é")?));
     let left = copy.without(alloc, "kMDItemTitle")?;
     assert!(rt; left.len() == 1 && left.get(&title).is_none() && left.get(&size).is_some());
+    Ok(())
+}
+
+#[test]
+fn knows_attributes(rt: HostRuntime) -> Result<(), Fail> {
+    let alloc = rt.alloc();
+    let rows = [
+        ("kMDItemAuthors", Some((Kind::Text, true, true))),
+        ("kMDItemContentType", Some((Kind::Text, false, false))),
+        ("kMDItemDueDate", Some((Kind::Moment, false, true))),
+        ("kMDItemStarRating", Some((Kind::Number, false, true))),
+        ("md_imported", Some((Kind::Flag, false, false))),
+        ("kMDItemtitle", None),
+    ];
+    for (name, want) in rows {
+        let rule = schema_of(&Name::read(alloc, name)?);
+        let rule = rule.map(|rule| (rule.kind, rule.many, rule.from_files));
+        assert!(rt; rule == want, "{name}");
+    }
     Ok(())
 }
