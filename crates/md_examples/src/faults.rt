@@ -21,6 +21,29 @@ fn a_script_that_fails_is_a_read_fault(rt: HostRuntime) -> Result<(), Fail> {
 }
 
 #[test]
+fn a_clock_that_fails_is_a_read_fault(rt: HostRuntime) -> Result<(), Fail> {
+    let alloc = rt.alloc();
+    for (call, status, err) in [
+        (0, Status::ReadFault, "mdserve: clock could not be read\n"),
+        (1, Status::Ok, ""),
+    ] {
+        let mut fails = no_fails(alloc);
+        fails.clock.push(call)?;
+        let ran = run_words(alloc, &["live"], b"", fails)?;
+        assert_eq!(rt; ran.status, status);
+        assert_eq!(rt; ran.err.taken(), err.as_bytes());
+    }
+    // A script that is refused does not ask for the time.
+    let mut fails = no_fails(alloc);
+    fails.clock.push(0)?;
+    assert_eq!(rt;
+        run_words(alloc, &["live"], b"x", fails)?.status,
+        Status::Script
+    );
+    Ok(())
+}
+
+#[test]
 fn an_out_that_fails_has_a_front_of_the_journal(rt: HostRuntime) -> Result<(), Fail> {
     let alloc = rt.alloc();
     let journal = FIRST_JOURNAL.as_bytes();

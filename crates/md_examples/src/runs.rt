@@ -1,5 +1,5 @@
-// A run of the top call over sources and sinks in memory.
-use md_source::{MemorySink, MemorySource};
+// A run of the top call over a source, a clock and sinks in memory.
+use md_source::{MemoryClock, MemorySink, MemorySource};
 use md_tool::{Status, run};
 use std::alloc::Global;
 use std::test::Fail;
@@ -23,6 +23,9 @@ pub const FIRST_JOURNAL: &str = "1 ticket 1 a.txt
 ~ a.txt
 ";
 
+/// What the clock shows: 2024-03-15 10:00:00 in UTC, a Friday.
+const NOW: i64 = 1_710_496_800;
+
 /// What a run printed.
 #[derive(Drop)]
 pub struct Ran {
@@ -35,6 +38,7 @@ pub struct Ran {
 #[derive(Drop)]
 pub struct Fails {
     pub script: Vec<u64>,
+    pub clock: Vec<u64>,
     pub out: Vec<u64>,
     pub err: Vec<u64>,
 }
@@ -42,6 +46,7 @@ pub struct Fails {
 pub fn no_fails(alloc: Global) -> Fails {
     Fails {
         script: Vec::new(alloc),
+        clock: Vec::new(alloc),
         out: Vec::new(alloc),
         err: Vec::new(alloc),
     }
@@ -53,9 +58,10 @@ pub fn run_words(alloc: Global, words: &[&str], script: &[u8], fails: Fails) -> 
         owned.push(String::from_str(alloc, word)?)?;
     }
     let mut source = MemorySource::new(script.to_vec(alloc)?, 4096, fails.script);
+    let mut clock = MemoryClock::new(NOW, fails.clock);
     let mut out = MemorySink::new(alloc, 4, fails.out);
     let mut err = MemorySink::new(alloc, 4, fails.err);
-    let outcome = run(alloc, &owned, &mut source, &mut out, &mut err);
+    let outcome = run(alloc, &owned, &mut source, &mut clock, &mut out, &mut err);
     Ok(Ran {
         status: outcome.status,
         out,

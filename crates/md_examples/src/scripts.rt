@@ -39,10 +39,91 @@ fn scripts_print_their_journals(rt: HostRuntime) -> Result<(), Fail> {
 }
 
 #[test]
+fn queries_ask_by_expressions(rt: HostRuntime) -> Result<(), Fail> {
+    let alloc = rt.alloc();
+    let script = "put a.txt budget 2024
+put \u{fc}.txt Stra\u{df}e
+c0 query 1 where kMDItemTextContent == \"*BUD*\"c
+c0 gather 1
+c0 query 2 where * = 'STRASSE'c || kMDItemFSName == \"u.TXT\"cd
+c0 gather 2
+c0 query 3 where kMDItemFSContentChangeDate >= $time.today && kMDItemFSContentChangeDate < $time.now(1) && kMDItemFSSize > 10
+c0 gather 3
+c0 query 4 where kMDItemTitle != \"x\" && !(kMDItemTitle == * || md_imported == 0)
+c0 gather 4
+c0 query 5 where InRange(kMDItemFSSize, 6.5, 7)
+c0 gather 5
+put a.txt tax
+c0 poll 1
+c0 poll 4
+c0 poll 5
+";
+    let journal = "1 ticket 1 a.txt
+2 committed 1 1
+3 ticket 2 \u{fc}.txt
+4 committed 2 2
+5 c0 q1 created 2
+6 c0 q1 finished 1 2
+  a.txt
+7 c0 q2 created 2
+8 c0 q2 finished 1 2
+  \u{fc}.txt
+9 c0 q3 created 2
+10 c0 q3 finished 1 2
+  a.txt
+11 c0 q4 created 2
+12 c0 q4 finished 2 2
+  a.txt
+  \u{fc}.txt
+13 c0 q5 created 2
+14 c0 q5 finished 1 2
+  \u{fc}.txt
+15 ticket 3 a.txt
+16 committed 3 3
+17 c0 q1 notice 2 3
+- a.txt
+18 c0 q4 notice 2 3
+~ a.txt
+19 c0 q5 not-yet 0
+";
+    let ran = live(alloc, script.as_bytes())?;
+    assert_eq!(rt; ran.out.taken(), journal.as_bytes());
+    assert_eq!(rt; ran.status, Status::Ok);
+    Ok(())
+}
+
+#[test]
+fn forms_of_time_out_of_range_end_the_run(rt: HostRuntime) -> Result<(), Fail> {
+    let alloc = rt.alloc();
+    let rows = [
+        (
+            "c0 query 1 where kMDItemFSName == \"*\" && kMDItemDueDate > $time.now(999999999999)",
+            "mdserve: line 1: time form 1 out of range\n",
+        ),
+        (
+            "put a.txt x\n# two\nc0 query 1 where a == $time.today || InRange(a, $time.now, $time.this_year(9999))\nc0 query 1 where a < $time.now(-999999999999)\n",
+            "mdserve: line 3: time form 3 out of range\n",
+        ),
+        (
+            "c0 query 1 where a < $time.this_year(7975)\nc0 query 1 where a < $time.this_year(7976)\n",
+            "mdserve: line 2: time form 1 out of range\n",
+        ),
+    ];
+    for (script, err) in rows {
+        let ran = live(alloc, script.as_bytes())?;
+        assert_eq!(rt; ran.err.taken(), err.as_bytes());
+        assert_eq!(rt; ran.out.taken(), b"".as_slice());
+        assert_eq!(rt; ran.status, Status::Expression);
+    }
+    Ok(())
+}
+
+#[test]
 fn bad_lines_and_words_are_refused(rt: HostRuntime) -> Result<(), Fail> {
     let alloc = rt.alloc();
     let rows = [
-        ("c0 query 1 where kMDItemFSName == \"*\"", 1),
+        ("c0 query 1 where kMDItemFSName == \"a\" &&\n", 1),
+        ("\n\nc0 query 1 where kMDItemTitle == \"x\"cc\n", 3),
         ("put a.txt x\nput b.txt x\nput ../a x\n", 3),
         ("\n#\nc256 poll 1\n", 3),
         ("put a.txt x\nc0 pol", 2),

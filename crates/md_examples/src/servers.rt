@@ -1,4 +1,5 @@
 // Runs of the server over events that no script line gives yet: parts, nested disables, late commits, small limits.
+use md_expr::read;
 use md_hub::run;
 use md_machine::{Batch, Event, Spec};
 use md_render::push_entry;
@@ -44,23 +45,33 @@ fn remove(ticket: u32) -> Event {
     }
 }
 
-// Client 0 creates its query 1 for all files, with at most so many hits in a part.
-fn create(alloc: Global, most: Option<u32>) -> Event {
-    let batch = Batch {
-        first: most,
-        progress: most,
-        update: None,
-        ms: None,
-    };
-    Event::Create {
+// Client 0 creates its query 1 for all files that have a name, with its results in these batches.
+fn create_by(alloc: Global, batch: Batch) -> Result<Event, Fail> {
+    let expr = read(alloc, "kMDItemFSName == *")?;
+    Ok(Event::Create {
         client: 0,
         number: 1,
         spec: Spec {
+            expr,
+            now: 0,
+            offset: 0,
             scope: Path::root(alloc),
-            name: None,
             batch,
         },
-    }
+    })
+}
+
+// The same with at most so many hits in a part.
+fn create(alloc: Global, most: Option<u32>) -> Result<Event, Fail> {
+    create_by(
+        alloc,
+        Batch {
+            first: most,
+            progress: most,
+            update: None,
+            ms: None,
+        },
+    )
 }
 
 fn gather() -> Event {
@@ -86,12 +97,16 @@ fn enable() -> Event {
     }
 }
 
-fn poll() -> Event {
+fn poll_at(now_ms: u64) -> Event {
     Event::Poll {
         client: 0,
         number: 1,
-        now_ms: 0,
+        now_ms,
     }
+}
+
+fn poll() -> Event {
+    poll_at(0)
 }
 
 #[test]
@@ -99,7 +114,7 @@ fn disables_nest(rt: HostRuntime) -> Result<(), Fail> {
     let alloc = rt.alloc();
     let mut events = Vec::new(alloc);
     for event in [
-        create(alloc, None),
+        create(alloc, None)?,
         gather(),
         disable(),
         disable(),
@@ -129,7 +144,7 @@ fn gathering_goes_on_with_the_base(rt: HostRuntime) -> Result<(), Fail> {
     events.push(put(alloc, 2, "b.txt")?)?;
     events.push(draw(alloc, "c.txt")?)?;
     events.push(put(alloc, 3, "c.txt")?)?;
-    for event in [create(alloc, Some(2)), gather(), poll()] {
+    for event in [create(alloc, Some(2))?, gather(), poll()] {
         events.push(event)?;
     }
     events.push(draw(alloc, "d.txt")?)?;
@@ -144,6 +159,36 @@ fn gathering_goes_on_with_the_base(rt: HostRuntime) -> Result<(), Fail> {
             .ends_with(
                 "7 c0 q1 created 3\n8 c0 q1 progress 2\n  a.txt\n  b.txt\n9 c0 q1 not-finished\n10 ticket 4 d.txt\n11 committed 4 4\n12 ticket 5 c.txt\n13 committed 5 5\n14 c0 q1 finished 1 3\n  c.txt\n15 c0 q1 notice 3 5\n+ d.txt\n- c.txt\nversion 5, 3 rows\n"
             )
+    );
+    Ok(())
+}
+
+#[test]
+fn updates_come_in_batches(rt: HostRuntime) -> Result<(), Fail> {
+    let alloc = rt.alloc();
+    let batch = Batch {
+        first: None,
+        progress: None,
+        update: Some(2),
+        ms: Some(500),
+    };
+    let mut events = Vec::new(alloc);
+    events.push(create_by(alloc, batch)?)?;
+    events.push(gather())?;
+    events.push(draw(alloc, "a.txt")?)?;
+    events.push(put(alloc, 1, "a.txt")?)?;
+    for event in [poll_at(100), poll_at(500)] {
+        events.push(event)?;
+    }
+    events.push(draw(alloc, "b.txt")?)?;
+    events.push(put(alloc, 2, "b.txt")?)?;
+    events.push(poll_at(999))?;
+    events.push(draw(alloc, "c.txt")?)?;
+    events.push(put(alloc, 3, "c.txt")?)?;
+    events.push(poll_at(999))?;
+    assert_eq!(rt;
+        journal(alloc, Limits::STANDARD, &events)?.as_str(),
+        "1 c0 q1 created 0\n2 c0 q1 finished 0 0\n3 ticket 1 a.txt\n4 committed 1 1\n5 c0 q1 not-yet 1\n6 c0 q1 notice 0 1\n+ a.txt\n7 ticket 2 b.txt\n8 committed 2 2\n9 c0 q1 not-yet 1\n10 ticket 3 c.txt\n11 committed 3 3\n12 c0 q1 notice 1 3\n+ b.txt\n+ c.txt\nversion 3, 3 rows\n"
     );
     Ok(())
 }
@@ -187,8 +232,8 @@ fn a_full_store_keeps_the_ticket(rt: HostRuntime) -> Result<(), Fail> {
         events.push(draw(alloc, path)?)?;
     }
     for event in [
-        create(alloc, None),
-        create(alloc, None),
+        create(alloc, None)?,
+        create(alloc, None)?,
         disable(),
         disable(),
         disable(),

@@ -1,6 +1,5 @@
 -- The journal of a line, and then of the lines after it.
-use Rattle.std.proofs.Common.{◌≡◌, ℕ, ◌+◌, ◌≤◌, List, [], ◌∷◌, ◌++◌, length, refl, sym, ◌∙◌, ap, arith, append_assoc}
-use Rattle.std.specs.List.{zip}
+use Rattle.std.proofs.Common.{◌≡◌, ℕ, ℤ, ◌+◌, ◌≤◌, List, ◌++◌, length, sym, ◌∙◌, ap, arith, append_assoc}
 use Rattle.md_value.specs.Values.{PathBytes}
 use Rattle.md_world.specs.declared.Change.{Change}
 use Rattle.md_world.specs.declared.Change.TheVariants as change
@@ -10,14 +9,13 @@ use Rattle.md_machine.specs.declared.Reply.{Reply}
 use Rattle.md_machine.specs.declared.Reply.TheVariants as reply
 use Rattle.md_machine.specs.States.{State}
 use Rattle.md_machine.specs.Steps.{step}
-use Rattle.md_machine.specs.Runs.{Entry, run_from}
+use Rattle.md_machine.specs.Runs.{run_from}
 use Rattle.md_machine.proofs.Joining.{entries-join, length-entries}
 use Rattle.md_render.specs.Texts.{journal_text}
 use Rattle.md_render.proofs.Joined.{journal_text-append}
 use Rattle.md_script.specs.declared.script.What.{What}
 use Rattle.md_script.specs.declared.script.What.TheVariants as what
-use Rattle.md_script.specs.declared.script.Line.{Line}
-use Rattle.md_tool.specs.Events.{after_commit, after_draw, job, line_events, events_from, entries_from}
+use Rattle.md_tool.specs.Events.{after_commit, after_draw, job, line_events, entries_from}
 use Rattle.md_tool.specs.Telling.{Telling, told}
 
 -- what was written of the events, then what is to be written of those after them
@@ -44,9 +42,9 @@ few_in_job : (s : State) (path : PathBytes) (c : Change) → length (job s path 
 few_in_job s path c = omega (arith, few_after_draw (step s (event.Draw path)).state c (step s (event.Draw path)).reply)
 
 -- a line has at most three events
-pub few_events : (s : State) (w : What) → length (line_events s w) ≤ 3
-few_events s (what.Put path text) = few_in_job s path _
-few_events s (what.Remove path) = few_in_job s path change.Remove
-few_events s (what.Query client number name) = omega arith
-few_events s (what.Gather client number) = omega arith
-few_events s (what.Poll client number) = omega arith
+pub few_events : (now : ℤ) (s : State) (w : What) → length (line_events now s w) ≤ 3
+few_events now s (what.Put path text) = few_in_job s path _
+few_events now s (what.Remove path) = few_in_job s path change.Remove
+few_events now s (what.Query client number expr) = omega arith
+few_events now s (what.Gather client number) = omega arith
+few_events now s (what.Poll client number) = omega arith

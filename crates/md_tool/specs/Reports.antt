@@ -1,5 +1,5 @@
 -- What the words, the script and the clock ask to be printed, and what is printed of it.
-use Rattle.std.specs.Prelude.{◌≡◌, ◌⊎◌, ℕ, ℤ, List, [], ◌∷◌, ◌++◌, codes, IfSome, Option, None, Some, Result, Ok, Err}
+use Rattle.std.specs.Prelude.{◌≡◌, ◌⊎◌, ℕ, ℤ, List, [], ◌∷◌, ◌++◌, codes, Option, None, Some, Ok, Err}
 use Rattle.std.specs.Fmt.{decimal}
 use Rattle.std.specs.Io.KnownBytes.{IsAtEnd}
 use Rattle.md_world.specs.declared.TheConstants.Limits.{STANDARD}
@@ -12,7 +12,7 @@ use Rattle.md_script.specs.declared.script.ScriptError.TheVariants as error
 use Rattle.md_script.specs.Scripts.{verdict}
 use Rattle.md_tool.specs.Events.{events_from}
 use Rattle.md_tool.specs.TimeForms.{out_of_range}
-use Rattle.md_tool.specs.Outside.{Bytes, Inputs, Outputs, IsRead, IsShown, Fails, ClockFails, TakesNothing, TakesWhole, TakesPart}
+use Rattle.md_tool.specs.Outside.{Shown, Inputs, Outputs, IsRead, IsShown, Fails, ClockFails, TakesNothing, TakesWhole, TakesPart}
 use Rattle.md_tool.specs.declared.top.Status.{Status}
 use Rattle.md_tool.specs.declared.top.Status.TheVariants as status
 
@@ -51,16 +51,17 @@ report_by now lines (Some (line, form)) =
 abbrev pub report_of : ℤ → List Line → Report
 report_of now lines = report_by now lines (out_of_range now lines)
 
--- What the words, the script and the clock ask to be printed: the first of these, each object being called only where it is named.
+-- What a script in bytes and the clock ask to be printed; the clock is read only where the script is accepted.
+pub data Answers (bytes : List ℕ) (old new : Shown) : Report → Type 0 where
+  refuses : (e : ScriptError) → verdict bytes ≡ Err e → new ≡ old → Answers bytes old new (refused e)
+  unclocked : (lines : List Line) → verdict bytes ≡ Ok lines → ClockFails old new → Answers bytes old new (refusal status.ReadFault (codes "clock could not be read"))
+  runs : (lines : List Line) (now : ℤ) → verdict bytes ≡ Ok lines → IsShown old new now → Answers bytes old new (report_of now lines)
+
+-- What the words, the script and the clock ask to be printed; the script is read only where the words are understood, and the clock after it.
 pub data Asks (words : List (List ℕ)) (old new : Inputs) : Report → Type 0 where
   usage : ¬ (IsLive words) → new ≡ old → Asks words old new (refusal status.Usage (codes "words not understood"))
   unread : IsLive words → Fails old.script new.script → new.clock ≡ old.clock → Asks words old new (refusal status.ReadFault (codes "script could not be read"))
-  refuses : (bytes : List ℕ) (e : ScriptError) → IsLive words → IsRead old.script new.script bytes → new.clock ≡ old.clock
-      → verdict bytes ≡ Err e → Asks words old new (refused e)
-  unclocked : (bytes : List ℕ) (lines : List Line) → IsLive words → IsRead old.script new.script bytes → verdict bytes ≡ Ok lines
-      → ClockFails old.clock new.clock → Asks words old new (refusal status.ReadFault (codes "clock could not be read"))
-  runs : (bytes : List ℕ) (lines : List Line) (now : ℤ) → IsLive words → IsRead old.script new.script bytes → verdict bytes ≡ Ok lines
-      → IsShown old.clock new.clock now → Asks words old new (report_of now lines)
+  read : (bytes : List ℕ) (report : Report) → IsLive words → IsRead old.script new.script bytes → Answers bytes old.clock new.clock report → Asks words old new report
 
 -- How a run ends: the texts that were asked stand whole on err and then on out; or a put failed, and nothing more was put; or memory ran out, and nothing was put.
 pub data Ends (words : List (List ℕ)) (old new : Inputs) (before after : Outputs) : Status → Type 0 where

@@ -1,5 +1,5 @@
 -- A server with the text of its journal so far.
-use Rattle.std.specs.Prelude.{ℕ, ◌+◌, List, [], ◌∷◌, ◌++◌, length}
+use Rattle.std.specs.Prelude.{ℕ, ◌+◌, List, ◌++◌, length}
 use Rattle.md_machine.specs.declared.Event.{Event}
 use Rattle.md_machine.specs.States.{State}
 use Rattle.md_machine.specs.Runs.{run_from}

@@ -1,10 +1,10 @@
 // The top call: from the words, the script and the clock to what is printed.
-ghost use Rattle.std.specs.Prelude.{◌≡◌, ◌≤◌, ◌↔◌, ◌⊎◌, IsTrue, IfOk, IfSome, length, map, string_bytes, Some};
+ghost use Rattle.std.specs.Prelude.{◌≡◌, ◌≤◌, ◌↔◌, ◌⊎◌, IsTrue, IsErr, IfOk, IfSome, length, map, string_bytes, Some};
 ghost use Rattle.md_value.specs.Values.{IsMoment};
 ghost use Rattle.md_source.specs.Causes.{Rose};
-ghost use Rattle.md_script.specs.declared.script.ScriptError.TheVariants.{BadLine};
+ghost use Rattle.md_script.specs.declared.script.ScriptError.TheVariants.{BadLine, Memory};
 ghost use Rattle.md_tool.specs.Codes.{code_of};
-ghost use Rattle.md_tool.specs.Reports.{IsLive, Asks, Ends, IsAccepted, IsRefused, HasFormOut, IsComplete, report_by, report_of, refused, refusal};
+ghost use Rattle.md_tool.specs.Reports.{IsLive, Answers, Asks, Ends, IsAccepted, IsRefused, HasFormOut, IsComplete, report_by, report_of, refused, refusal};
 ghost use Rattle.md_tool.specs.declared.top.Status.{Status};
 ghost use Rattle.md_tool.specs.declared.top.Status.TheVariants as status;
 
@@ -101,7 +101,8 @@ fn bad_line(alloc: Global, number: u32) -> Result<Printing, AllocError>
 
 // What refuses a script.
 fn refused(alloc: Global, error: ScriptError) -> Result<Printing, AllocError>
-    ensures { IfOk result (λ p. p ≡ refused error) }
+    ensures report { IfOk result (λ p. p ≡ refused error) }
+    ensures memory { error ≡ Memory → IsErr result }
 {
     match error {
         ScriptError::TooLong => refusal(alloc, Status::Script, "script too long"),
@@ -111,7 +112,13 @@ fn refused(alloc: Global, error: ScriptError) -> Result<Printing, AllocError>
     }
 }
 
-fn form_out_of_range(alloc: Global, now: i64, lines: &[Line], line: u32, form: u32) -> Result<Printing, AllocError>
+fn form_out_of_range(
+    alloc: Global,
+    now: i64,
+    lines: &[Line],
+    line: u32,
+    form: u32,
+) -> Result<Printing, AllocError>
     ensures { IfOk result (λ p. p ≡ report_by now lines.now (Some (line, form))) }
 {
     let line = format!(in alloc; "line {line}: time form {form} out of range")?;
@@ -135,6 +142,22 @@ fn report_of(alloc: Global, now: i64, lines: &[Line]) -> Result<Printing, AllocE
     })
 }
 
+// What a script and the clock ask to be printed.
+fn answer<C: Clock>(alloc: Global, bytes: &[u8], clock: &mut C) -> Result<Printing, AllocError>
+    ensures { IfOk result (λ p. Answers bytes.now
+        (record { told = C.moment clock.old; faults = C.faults clock.old })
+        (record { told = C.moment clock.new; faults = C.faults clock.new }) p) }
+{
+    let script = match read_script(alloc, bytes) {
+        Ok(script) => script,
+        Err(error) => return refused(alloc, error),
+    };
+    match clock.now() {
+        Ok(now) => report_of(alloc, now, script.lines()),
+        Err(_) => refusal(alloc, Status::ReadFault, "clock could not be read"),
+    }
+}
+
 // What the words, the script and the clock ask to be printed.
 fn asked<S: Source, C: Clock>(
     alloc: Global,
@@ -150,22 +173,14 @@ fn asked<S: Source, C: Clock>(
     if !is_live(words) {
         return refusal(alloc, Status::Usage, "words not understood");
     }
-    let bytes = match read_all(alloc, script, MOST_BYTES) {
-        Ok(bytes) => bytes,
-        Err(SourceEnd::Failed) => {
-            return refusal(alloc, Status::ReadFault, "script could not be read");
+    match read_all(alloc, script, MOST_BYTES) {
+        Ok(bytes) => {
+            let report = answer(alloc, &bytes, clock)?;
+            Ok(report)
         }
-        Err(SourceEnd::Memory) => return Err(AllocError),
-    };
-    let script = match read_script(alloc, &bytes) {
-        Ok(script) => script,
-        Err(error) => return refused(alloc, error),
-    };
-    let now = match clock.now() {
-        Ok(now) => now,
-        Err(_) => return refusal(alloc, Status::ReadFault, "clock could not be read"),
-    };
-    report_of(alloc, now, script.lines())
+        Err(SourceEnd::Failed) => { refusal(alloc, Status::ReadFault, "script could not be read") }
+        Err(SourceEnd::Memory) => Err(AllocError),
+    }
 }
 
 /// Reads the words, the script and the clock, runs the script's lines in order over a server of its own, and prints

@@ -1,4 +1,5 @@
-use Rattle.std.proofs.Common.{◌≡◌, ℕ, ◌+◌, ◌≤◌, ◌++◌, ◌∷◌, List, length, drop, sym, ap, ◌∙◌, arith}
+use Rattle.std.proofs.Common.{◌≡◌, ◌+◌, ◌++◌, ◌∷◌, List, length, drop, sym, ap, ◌∙◌, arith, rules, FitsSigned, w64}
+use Rattle.std.proofs.lemmas.Int.{to_z-of_z}
 use Rattle.std.proofs.lemmas.List.{at_drop_more}
 use Rattle.md_machine.specs.Runs.{run_from}
 use Rattle.md_render.specs.Texts.{journal_text}
@@ -11,21 +12,24 @@ use Rattle.md_tool.proofs.live.journal_of.Goals as goal
 pub loop-line-preserved : goal.loop-line-preserved
 loop-line-preserved c =
     let l = c.loop-line in
+    let now = c.args.now in
+    let fits : FitsSigned w64 now = search rules in
     let t = l.live in
     let line = c.line-item.result in
     let lines = c.args.lines.now in
     let rest = drop (l.line-index + 1) lines in
-    let events = line_events t.state line.what in
-    let new : c.line.new.self ≡ told t events = c.in_ok-line.ensures in
-    let left = λ (t : Telling) (ls : List Line). t.text ++ journal_text t.next (entries_from t.state (events_from t.state ls)) in
+    let events = line_events now t.state line.what in
+    let new : c.line.new.self ≡ told t events = simp to_z-of_z at c.in_ok-line.ensures in
+    let left = λ (t : Telling) (ls : List Line). t.text ++ journal_text t.next (entries_from t.state (events_from now t.state ls)) in
     let places : c.line.new.self.next ≡ t.next + length events = ap (λ (t : Telling). t.next) new in
     let before = l.invariant.few in
+    let whole = simp to_z-of_z at l.invariant.rest in
     record {
-      few = omega (arith, places, before, few_events t.state line.what);
+      few = omega (arith, places, before, few_events now t.state line.what);
       rest =
-          ap (λ (t : Telling). left t rest) new
-          ∙ told_then t events (events_from (run_from t.state events).last rest)
+          simp to_z-of_z (ap (λ (t : Telling). left t rest) new
+          ∙ told_then t events (events_from now (run_from t.state events).last rest)
           ∙ ap (λ (x : Line). left t (x ∷ rest)) c.line-item.is
           ∙ sym (at_drop_more (left t) lines l.line-index line c.loop-line-test.true)
-          ∙ l.invariant.rest;
+          ∙ whole);
     }
