@@ -4,7 +4,7 @@ ghost use Rattle.md_value.specs.Values.{IsMoment, IsInRange, is_mixed};
 ghost use Rattle.md_value.specs.declared.value.Value.TheVariants as value;
 ghost use Rattle.imp_rules.specs.Files.{with_values, text};
 ghost use Rattle.imp_kind.specs.Base.{texts, size_number, with_base};
-ghost use Rattle.imp_kind.specs.Kinds.{content_types};
+ghost use Rattle.imp_kind.specs.Kinds.{content_types, is_imported};
 
 use crate::FileKind;
 use imp_rules::{put_text, put_value, put_values, text_value};
@@ -63,6 +63,31 @@ fn size_number(size: u64) -> i64
     size.min(i64::MAX as u64) as i64
 }
 
+fn put_size(alloc: Global, attrs: &mut Attrs, size: u64) -> Result<(), Memory>
+    ensures { OnOk result (attrs.new ≡ with_values attrs.old (codes "kMDItemFSSize") (value.Number (pos (size_number size)) ∷ [])) }
+{
+    let number = size_number(size);
+    put_value(alloc, attrs, "kMDItemFSSize", Value::Number(number))
+}
+
+fn put_changed(alloc: Global, attrs: &mut Attrs, changed: i64) -> Result<(), Memory>
+    requires { IsMoment changed }
+    ensures { OnOk result (attrs.new ≡ with_values attrs.old (codes "kMDItemFSContentChangeDate") (value.Moment changed ∷ [])) }
+{
+    put_value(
+        alloc,
+        attrs,
+        "kMDItemFSContentChangeDate",
+        Value::Moment(changed),
+    )
+}
+
+fn put_imported(alloc: Global, attrs: &mut Attrs, kind: FileKind) -> Result<(), Memory>
+    ensures { OnOk result (attrs.new ≡ with_values attrs.old (codes "md_imported") (value.Flag (is_imported kind) ∷ [])) }
+{
+    put_value(alloc, attrs, "md_imported", Value::Flag(kind.is_imported()))
+}
+
 /// Sets the attributes that every file has.
 pub(crate) fn put_base(
     alloc: Global,
@@ -74,15 +99,14 @@ pub(crate) fn put_base(
     ensures { OnOk result (attrs.new ≡ with_base entry.now kind attrs.old) }
 {
     let name = entry.path.name();
-    let size = Value::Number(size_number(entry.size));
     put_text(alloc, attrs, "kMDItemContentType", kind.content_type())?;
     put_types(alloc, attrs, kind)?;
     put_text(alloc, attrs, "kMDItemDisplayName", name)?;
-    put_value(alloc, attrs, "kMDItemFSContentChangeDate", Value::Moment(entry.changed))?;
+    put_changed(alloc, attrs, entry.changed)?;
     put_text(alloc, attrs, "kMDItemFSName", name)?;
-    put_value(alloc, attrs, "kMDItemFSSize", size)?;
+    put_size(alloc, attrs, entry.size)?;
     put_text(alloc, attrs, "kMDItemKind", kind.words())?;
     put_text(alloc, attrs, "kMDItemPath", entry.path.as_str())?;
-    put_value(alloc, attrs, "md_imported", Value::Flag(kind.is_imported()))?;
+    put_imported(alloc, attrs, kind)?;
     Ok(())
 }

@@ -41,12 +41,7 @@ fn without_mark(text: &str) -> &str
     }
 }
 
-fn text_of_kind(
-    alloc: Global,
-    kind: FileKind,
-    text: &str,
-    offset: i32,
-) -> Result<Attrs, FillFault>
+fn text_of_kind(alloc: Global, kind: FileKind, text: &str, offset: i32) -> Result<Attrs, FillFault>
     ensures { Answers result (text_of_kind kind text.now offset) }
 {
     match kind {

@@ -1,4 +1,4 @@
-use Rattle.std.proofs.Common.{◌≡◌, ◌∙◌, sym, ap, subst, Err, FitsSigned, w32}
+use Rattle.std.proofs.Common.{◌∙◌, sym, ap, subst, Err, FitsSigned, w32}
 use Rattle.std.proofs.lemmas.Int.{to_z-of_z}
 use Rattle.md_value.specs.declared.fault.Fault.TheVariants.{NotUtf8}
 use Rattle.imp_rules.specs.Faults.{Answers}
