@@ -9,7 +9,7 @@ use Rattle.md_expr_parse.specs.Reading.{Reading}
 use Rattle.md_expr_parse.specs.declared.read.ReadError.{ReadError}
 use Rattle.md_expr_parse.specs.declared.read.ReadError.TheVariants as error
 use Rattle.md_expr.specs.Answer.{Answers}
-use Rattle.md_expr.proofs.Well.{expression_well}
+use Rattle.md_expr_plain.proofs.Well.{expression_well}
 
 -- these are the text's tokens, and it has no others
 abbrev pub Only : List ℕ → List Token → Type 0

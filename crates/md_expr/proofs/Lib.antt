@@ -1,3 +1,4 @@
 pub mod Answered
+pub mod Lexed
+pub mod Outcomes
 pub mod Readings
-pub mod Well

@@ -1,16 +1,16 @@
 // The expression that a text reads as.
-ghost use Rattle.std.specs.Prelude.{◌≡◌, IfOk, true, chars};
+ghost use Rattle.std.specs.Prelude.{◌≡◌, ◌⊎◌, IfOk, Err, true, chars};
 ghost use Rattle.md_expr_tree.specs.WellMade.{is_well_made};
+ghost use Rattle.md_expr_parse.specs.declared.read.ReadError.TheVariants.{Memory};
 ghost use Rattle.md_expr.specs.Answer.{Answers, HasOneReading};
+ghost use Rattle.md_expr.specs.Outcome.{outcome, IsAnswer};
 
 use md_expr_lex::{characters, tokens_of};
 use md_expr_parse::{ReadError, read_tokens};
+use md_expr_plain::MOST_BYTES;
 use md_expr_tree::Expr;
 use std::alloc::Global;
 use std::collections::VecDeque;
-
-/// The most bytes of an expression's text.
-pub const MOST_BYTES: usize = 65_536;
 
 /// The expression that the text reads as. The grammar and its meaning stand in `docs/EXPRESSIONS.md`.
 ///
@@ -19,6 +19,7 @@ pub const MOST_BYTES: usize = 65_536;
 /// exactly where it has over 4,096 comparisons.
 pub fn read(alloc: Global, text: &str) -> Result<Expr, ReadError>
     ensures answer { Answers result text.now }
+    ensures outcome { (result ≡ outcome text.now) ⊎ (result ≡ Err Memory) }
     ensures well_made { IfOk result (λ e. is_well_made e ≡ true) }
 {
     if MOST_BYTES < text.len() {
@@ -34,4 +35,9 @@ pub fn read(alloc: Global, text: &str) -> Result<Expr, ReadError>
 /// A law: a text reads as at most one expression, and in one way of opening groups.
 pub fn one_reading(text: &str)
     ensures { HasOneReading (chars text.now) }
+{}
+
+/// A law: what reading a text answers can be computed, and want of memory is the only other answer.
+pub fn one_outcome(text: &str)
+    ensures { IsAnswer text.now }
 {}

@@ -1,3 +1,4 @@
+pub mod Asking
 pub mod FirstLine
 pub mod Numerals
 pub mod Outcomes

@@ -1,5 +1,5 @@
 -- Texts and paths of bytes.
-use Rattle.std.proofs.Common.{◌≡◌, ℕ, ◌==◌, ◌&&◌, Bool, true, false, not, List, [], length, Option, Some, None, if◌then◌else◌, refl, sym, ◌∙◌, ap, IsUtf8}
+use Rattle.std.proofs.Common.{◌≡◌, ℕ, ◌==◌, Bool, true, false, not, List, length, Some, None, if◌then◌else◌, refl, sym, ◌∙◌, ap, IsUtf8}
 use Rattle.std.specs.List.{list_all}
 use Rattle.std.specs.Char.{is_ascii}
 use Rattle.std.specs.Str.{is_utf8}

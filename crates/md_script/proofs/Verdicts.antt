@@ -1,11 +1,10 @@
 -- The verdict on a script, cause by cause.
-use Rattle.std.proofs.Common.{◌≡◌, ◌≢◌, ℕ, ◌<◌, ◌≤◌, ◌↔◌, Bool, true, false, nat_lt, List, [], ◌∷◌, length, Option, Some, None, Result, Ok, Err, refl, sym, ◌∙◌, ap, arith}
+use Rattle.std.proofs.Common.{◌≡◌, ◌≢◌, ℕ, ◌<◌, ◌≤◌, ◌↔◌, Bool, true, false, nat_lt, List, [], length, Option, Some, None, Ok, Err, refl, sym, ap, arith}
 use Rattle.std.specs.Str.Lines.{lines}
 use Rattle.std.proofs.lemmas.Bool.{ltb-true, ltb-false}
 use Rattle.std.proofs.lemmas.Bool.Decides.{Decides-ltb, nat_tests}
 use Rattle.md_script.specs.declared.read.TheConstants.{MOST_BYTES, MOST_LINES}
 use Rattle.md_script.specs.declared.script.Line.{Line}
-use Rattle.md_script.specs.declared.script.ScriptError.{ScriptError}
 use Rattle.md_script.specs.declared.script.ScriptError.TheVariants.{TooLong, TooManyLines, BadLine, Memory}
 use Rattle.md_script.specs.Scripts.{verdict, verdict_by, first_bad, statements, IsShort}
 use Rattle.md_script.proofs.Outcomes.{outcome, outcome_by}

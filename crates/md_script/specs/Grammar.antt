@@ -1,11 +1,12 @@
 -- What a line says.
-use Rattle.std.specs.Prelude.{ℕ, ◌==◌, Bool, true, false, if◌then◌else◌, List, [], ◌∷◌, codes, bytes_eq, Option, Some, None}
+use Rattle.std.specs.Prelude.{ℕ, ◌==◌, Bool, true, if◌then◌else◌, List, [], ◌∷◌, codes, bytes_eq, Option, Some, None}
 use Rattle.std.specs.Option.{option_map, option_and_then}
 use Rattle.std.specs.Str.{is_utf8}
 use Rattle.md_script.specs.declared.script.What.{What}
 use Rattle.md_script.specs.declared.script.What.TheVariants as what
 use Rattle.md_script.specs.Lines.{first_word, after_word}
-use Rattle.md_script.specs.Words.{client_of, query_number, path_of, file_of, content_of, name_of}
+use Rattle.md_script.specs.Words.{client_of, query_number, path_of, file_of, content_of}
+use Rattle.md_script.specs.Names.{name_of}
 
 -- `put PATH CONTENT` or `put PATH`
 unfoldable pub put_of : List ℕ → Option What
@@ -15,7 +16,7 @@ put_of rest = option_and_then (λ path. option_map (λ text. what.Put path text)
 unfoldable pub remove_of : List ℕ → Option What
 remove_of rest = option_map (λ path. what.Remove path) (path_of rest)
 
--- `cC query N where kMDItemFSName == "T"`
+-- `cC query N where EXPRESSION`
 unfoldable pub query_of : ℕ → List ℕ → Option What
 query_of client rest = option_and_then (λ number. option_map (λ name. what.Query client number name) (name_of (after_word rest))) (query_number (first_word rest))
 

@@ -1,5 +1,6 @@
 pub mod Lines
 pub mod Escapes
 pub mod Words
+pub mod Names
 pub mod Grammar
 pub mod Scripts

@@ -1,10 +1,9 @@
 -- What a script says, and which is refused.
-use Rattle.std.specs.Prelude.{ℕ, ◌≤◌, ◌==◌, nat_lt, Bool, true, false, if◌then◌else◌, List, [], ◌∷◌, length, Option, Some, None, is_none, Result, Ok, Err}
+use Rattle.std.specs.Prelude.{ℕ, ◌≤◌, nat_lt, Bool, true, false, List, length, Option, Some, None, is_none, Result, Ok, Err}
 use Rattle.std.specs.Option.{option_map, option_and_then}
 use Rattle.std.specs.List.{filter_map, enumerate_from, position_from}
 use Rattle.std.specs.Str.Lines.{lines}
 use Rattle.md_script.specs.declared.read.TheConstants.{MOST_BYTES, MOST_LINES}
-use Rattle.md_script.specs.declared.script.What.{What}
 use Rattle.md_script.specs.declared.script.Line.{Line}
 use Rattle.md_script.specs.declared.script.ScriptError.{ScriptError}
 use Rattle.md_script.specs.declared.script.ScriptError.TheVariants.{TooLong, TooManyLines, BadLine}

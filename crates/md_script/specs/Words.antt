@@ -1,6 +1,6 @@
--- The numbers, paths, contents and names of a line.
-use Rattle.std.specs.Prelude.{ℕ, ◌==◌, ◌-◌, ◌^◌, nat_lt, nat_le, Bool, true, false, not, ◌&&◌, ◌||◌, if◌then◌else◌, List, [], ◌∷◌, length, take, drop, slice_index, codes, chars, Option, Some, None, nat_eq}
-use Rattle.std.specs.Option.{option_map, option_and_then}
+-- The numbers, paths and contents of a line.
+use Rattle.std.specs.Prelude.{ℕ, ◌==◌, ◌-◌, ◌^◌, nat_lt, nat_le, Bool, not, ◌&&◌, if◌then◌else◌, List, [], ◌∷◌, length, drop, codes, Option, Some, None, nat_eq}
+use Rattle.std.specs.Option.{option_and_then}
 use Rattle.std.specs.List.{list_all, list_any, starts_with}
 use Rattle.std.specs.Char.{is_ascii, is_ascii_digit}
 use Rattle.std.specs.Str.{is_utf8, str_eq_ignore_ascii_case}
@@ -50,15 +50,3 @@ content_of rest = option_and_then (λ text. if is_utf8 text && nat_le (length te
 -- what follows a beginning
 unfoldable pub without_prefix : List ℕ → List ℕ → Option (List ℕ)
 without_prefix prefix text = if starts_with nat_eq text prefix then Some (drop (length prefix) text) else None
-
--- what stands before the quotation mark at the end
-unfoldable pub without_quote : List ℕ → Option (List ℕ)
-without_quote text = if slice_index text (length text - 1) == 34 then Some (take (length text - 1) text) else None
-
--- an ASCII character other than `"`, `\` and `*`
-unfoldable pub is_plain : ℕ → Bool
-is_plain b = is_ascii b && not (b == 34 || b == 92 || b == 42)
-
--- the characters of T in `where kMDItemFSName == "T"`
-unfoldable pub name_of : List ℕ → Option (List ℕ)
-name_of text = option_and_then (λ name. if is_utf8 name && list_all is_plain name then Some (chars name) else None) (option_and_then without_quote (without_prefix (codes "where kMDItemFSName == \"") text))

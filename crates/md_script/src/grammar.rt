@@ -4,7 +4,8 @@ ghost use Rattle.md_script.specs.Grammar.{put_of, remove_of, query_of, gather_of
 
 use crate::What;
 use crate::lines::split_word;
-use crate::words::{client_of, content_of, file_of, is_text, name_of, path_of, query_number};
+use crate::names::name_of;
+use crate::words::{client_of, content_of, file_of, is_text, path_of, query_number};
 use std::alloc::{AllocError, Global};
 
 #[tactic(auto, unfolding(crate::specs::Grammar::put_of))]

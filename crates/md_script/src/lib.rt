@@ -6,6 +6,7 @@ mod escapes;
 mod grammar;
 mod laws;
 mod lines;
+mod names;
 mod read;
 mod script;
 mod words;

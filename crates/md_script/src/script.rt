@@ -14,7 +14,8 @@ pub enum What {
     Put { path: Path, text: Content },
     /// `remove PATH`: a job that removes the path.
     Remove { path: Path },
-    /// `cC query N where kMDItemFSName == "T"`: the client's query of this number asks for the files of the name T.
+    /// `cC query N where EXPRESSION`: the client's query of this number asks for the files of a name. The expression
+    /// compares `kMDItemFSName` by `==` with that name, a string of ASCII characters, no wildcard and no modifiers.
     Query { client: u8, number: u32, name: Text },
     /// `cC gather N`
     Gather { client: u8, number: u32 },

@@ -47,7 +47,7 @@ fn shown(alloc: Global, bytes: &[u8]) -> Result<String, Fail> {
 #[test]
 fn reads_lines(rt: HostRuntime) -> Result<(), Fail> {
     let alloc = rt.alloc();
-    let rows: [(&[u8], &str); 33] = [
+    let rows: [(&[u8], &str); 45] = [
         (b"", ""),
         (b"\n# note\n\nput a.txt one", "4 put a.txt [one]\n"),
         (b"put a.txt\n", "1 put a.txt []\n"),
@@ -89,8 +89,29 @@ fn reads_lines(rt: HostRuntime) -> Result<(), Fail> {
             b"c0 query 1 where kMDItemFSName == \"\"",
             "1 0 query 1 []\n",
         ),
+        (
+            b"c0 query 1 where  kMDItemFSName\t= 'a b\"\\*\\\\' ",
+            "1 0 query 1 [a b\"*\\]\n",
+        ),
+        (
+            b"c0 query 1 where (kMDItemFSName=\"'\")",
+            "1 0 query 1 [']\n",
+        ),
         (b"c0 query 1 where kMDItemFSName == \"*\"", "bad 1"),
-        (b"c0 query 1 where kMDItemFSName  == \"a\"", "bad 1"),
+        (b"c0 query 1 where kMDItemFSName == \"a\"c", "bad 1"),
+        (b"c0 query 1 where kMDItemFSName == \"\xc3\xa9\"", "bad 1"),
+        (b"c0 query 1 where kMDItemFSName != \"a\"", "bad 1"),
+        (b"c0 query 1 where kMDItemFSName == 1", "bad 1"),
+        (b"c0 query 1 where kMDItemTitle == \"a\"", "bad 1"),
+        (b"c0 query 1 where * == \"a\"", "bad 1"),
+        (b"c0 query 1 where !(kMDItemFSName == \"a\")", "bad 1"),
+        (
+            b"c0 query 1 where kMDItemFSName == \"a\" && a == 1",
+            "bad 1",
+        ),
+        (b"c0 query 1 where a == 1 && b", "bad 1"),
+        (b"c0 query 1 where", "bad 1"),
+        (b"c0 query 1  where kMDItemFSName == \"a\"", "bad 1"),
         (b"#\n#\xff\nat 1", "bad 2"),
         (b"# at\nat 1\n", "bad 2"),
     ];

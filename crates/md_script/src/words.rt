@@ -1,5 +1,5 @@
-// The numbers, paths, contents and names of a line.
-ghost use Rattle.std.specs.Prelude.{◌≡◌, ◌==◌, ◌&&◌, length, nat_le, IfOk, Some, None, chars, if◌then◌else◌};
+// The numbers, paths and contents of a line.
+ghost use Rattle.std.specs.Prelude.{◌≡◌, ◌==◌, ◌&&◌, length, nat_le, IfOk, Some, None, if◌then◌else◌};
 ghost use Rattle.std.specs.Option.{option_map};
 ghost use Rattle.std.specs.List.{list_all, list_any};
 ghost use Rattle.std.specs.Char.{is_ascii, is_ascii_digit};
@@ -7,12 +7,12 @@ ghost use Rattle.std.specs.Str.{is_utf8};
 ghost use Rattle.md_value.specs.Path.{normal};
 ghost use Rattle.md_script.specs.Lines.{is_space};
 ghost use Rattle.md_script.specs.declared.words.TheConstants.{MOST_CONTENT};
-ghost use Rattle.md_script.specs.Words.{is_numeral, number_below, client_of, query_number, is_path, path_of, is_plain_text, file_of, content_of, without_prefix, without_quote, is_plain, name_of};
+ghost use Rattle.md_script.specs.Words.{is_numeral, number_below, client_of, query_number, is_path, path_of, is_plain_text, file_of, content_of, without_prefix};
 
 use crate::Content;
 use crate::escapes::unescaped;
 use crate::lines::first;
-use md_value::{Path, PathError, Text};
+use md_value::{Path, PathError};
 use std::alloc::{AllocError, Global};
 use std::str;
 
@@ -31,8 +31,8 @@ fn is_numeral(text: &[u8]) -> bool
     !text.is_empty() && are_digits(text)
 }
 
-// The bytes as a text, if they are UTF-8.
-fn text_of(bytes: &[u8]) -> Option<&str>
+/// The bytes as a text, if they are UTF-8.
+pub fn text_of(bytes: &[u8]) -> Option<&str>
     ensures { option_map (λ t. t.now) result ≡ (if is_utf8 bytes.now then Some bytes.now else None) }
 {
     match str::from_utf8(bytes) {
@@ -185,58 +185,10 @@ pub fn content_of(alloc: Global, rest: &[u8]) -> Result<Option<Content>, AllocEr
     }
 }
 
+/// What follows the beginning, if the text begins so.
 #[tactic(auto, unfolding(crate::specs::Words::without_prefix))]
-fn without_prefix<'a>(prefix: &[u8], text: &'a [u8]) -> Option<&'a [u8]>
+pub fn without_prefix<'a>(prefix: &[u8], text: &'a [u8]) -> Option<&'a [u8]>
     ensures { option_map (λ rest. rest.now) result ≡ without_prefix prefix.now text.now }
 {
     text.strip_prefix(prefix)
-}
-
-#[tactic(auto, unfolding(crate::specs::Words::without_quote))]
-fn without_quote(text: &[u8]) -> Option<&[u8]>
-    ensures { option_map (λ rest. rest.now) result ≡ without_quote text.now }
-{
-    match text {
-        [rest @ .., b'"'] => Some(rest),
-        _ => None,
-    }
-}
-
-#[tactic(auto, unfolding(crate::specs::Words::is_plain))]
-fn is_plain(byte: u8) -> bool
-    ensures { result ≡ is_plain byte }
-{
-    byte.is_ascii() && !(byte == b'"' || byte == b'\\' || byte == b'*')
-}
-
-fn are_plain(name: &[u8]) -> bool
-    ensures { result ≡ list_all is_plain name.now }
-{
-    name.iter().all(|b| is_plain(*b))
-}
-
-fn plain_name(alloc: Global, name: &[u8]) -> Result<Option<Text>, AllocError>
-    ensures { IfOk result (λ r. r ≡ (if is_utf8 name.now && list_all is_plain name.now then Some (chars name.now) else None)) }
-{
-    if !are_plain(name) {
-        return Ok(None);
-    }
-    match text_of(name) {
-        Some(text) => Ok(Some(Text::of(alloc, text)?)),
-        None => Ok(None),
-    }
-}
-
-/// The name T of a query's `where kMDItemFSName == "T"`.
-#[tactic(auto, unfolding(crate::specs::Words::name_of))]
-pub fn name_of(alloc: Global, text: &[u8]) -> Result<Option<Text>, AllocError>
-    ensures { IfOk result (λ name. name ≡ name_of text.now) }
-{
-    let Some(rest) = without_prefix(b"where kMDItemFSName == \"", text) else {
-        return Ok(None);
-    };
-    match without_quote(rest) {
-        Some(name) => plain_name(alloc, name),
-        None => Ok(None),
-    }
 }

@@ -1,5 +1,5 @@
 -- Entries that pass the tests are a listing.
-use Rattle.std.proofs.Common.{◌≡◌, ◌≢◌, ◌==◌, ◌&&◌, not, ◌<◌, ℕ, ℤ, ◌≤ℤ◌, int_le, true, false, List, [], ◌∷◌, length, get_or, arith, refl, sym, ◌∙◌, ap, All, AllPairs}
+use Rattle.std.proofs.Common.{◌≡◌, ◌≢◌, ◌==◌, ◌&&◌, not, ◌<◌, ℕ, ℤ, ◌≤ℤ◌, int_le, true, List, [], ◌∷◌, length, get_or, arith, refl, sym, ◌∙◌, ap, All, AllPairs}
 use Rattle.std.specs.List.{list_all}
 use Rattle.std.proofs.lemmas.Bool.{and_parts, true≢false}
 use Rattle.std.proofs.lemmas.Int.{ints}

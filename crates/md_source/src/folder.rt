@@ -1,6 +1,7 @@
 // The tree of the files below a real folder.
 ghost use Rattle.std.specs.Prelude.{◌≡◌, ◌≤◌, ◌≢◌, IfOk, vec_len, None};
 ghost use Rattle.md_value.specs.Values.{IsMoment};
+ghost use Rattle.md_source.specs.Adapters.{folder_faults};
 ghost use Rattle.md_source.specs.Causes.{Rose};
 
 use crate::fault::count_fault;
@@ -25,7 +26,9 @@ pub struct Folder<R> {
 
 impl<R: Files + AllocGlobal + Clone + Drop> Folder<R> {
     /// The folder that the process works in, with no fault yet.
-    pub fn new(rt: R) -> Folder<R> {
+    pub fn new(rt: R) -> Folder<R>
+        ensures { folder_faults result ≡ 0 }
+    {
         Folder { rt, faults: 0 }
     }
 }
@@ -96,6 +99,7 @@ fn child_of(alloc: Global, folder: &Path, name: &str) -> io::Result<Path> {
 
 // Adds the files of one folder to the entries, and its folders to those that are left.
 fn visit<R: Files + AllocGlobal + Clone + Drop>(
+    alloc: Global,
     rt: &R,
     folder: &Path,
     entries: &mut Vec<Entry>,
@@ -103,7 +107,7 @@ fn visit<R: Files + AllocGlobal + Clone + Drop>(
 ) -> io::Result<()> {
     for item in fs::read_dir(rt, system_path(folder))? {
         let item = item?;
-        let path = child_of(rt.alloc(), folder, item.file_name())?;
+        let path = child_of(alloc, folder, item.file_name())?;
         match fs::symlink_metadata(rt, path.as_str()) {
             Ok(metadata) if metadata.is_dir() => left.push(path)?,
             Ok(metadata) if metadata.is_file() => entries.push(entry_of(path, &metadata))?,
@@ -116,16 +120,19 @@ fn visit<R: Files + AllocGlobal + Clone + Drop>(
 }
 
 // The entries of all files below a folder, ascending by path. What vanishes meanwhile is left out.
-fn walk<R: Files + AllocGlobal + Clone + Drop>(rt: &R, folder: &Path) -> io::Result<Vec<Entry>> {
-    let alloc = rt.alloc();
+fn walk<R: Files + AllocGlobal + Clone + Drop>(
+    alloc: Global,
+    rt: &R,
+    folder: &Path,
+) -> io::Result<Vec<Entry>> {
     let mut entries = Vec::new(alloc);
     let mut left = Vec::new(alloc);
-    visit(rt, folder, &mut entries, &mut left)?;
+    visit(alloc, rt, folder, &mut entries, &mut left)?;
     for _ in 0..u64::MAX {
         let Some(folder) = left.pop() else {
             break;
         };
-        match visit(rt, &folder, &mut entries, &mut left) {
+        match visit(alloc, rt, &folder, &mut entries, &mut left) {
             Err(error) if !is_absent(&error) => return Err(error),
             _ => {}
         }
@@ -137,11 +144,11 @@ fn walk<R: Files + AllocGlobal + Clone + Drop>(rt: &R, folder: &Path) -> io::Res
 
 impl<R: Files + AllocGlobal + Clone + Drop> Folder<R> {
     // The listing of a folder that is no link, nor is any on the way.
-    fn listing(&self, folder: &Path) -> io::Result<Vec<Entry>> {
+    fn listing(&self, alloc: Global, folder: &Path) -> io::Result<Vec<Entry>> {
         if !metadata_at(&self.rt, folder)?.is_dir() {
             return Err(io::Error::from(ErrorKind::NotADirectory));
         }
-        walk(&self.rt, folder)
+        walk(alloc, &self.rt, folder)
     }
 
     // The metadata of a plain file.
@@ -163,10 +170,10 @@ impl<R: Files + AllocGlobal + Clone + Drop> Folder<R> {
 impl<R: Files + AllocGlobal + Clone + Drop> Tree for Folder<R> {
     ghost content = { λ f. None };
 
-    ghost faults = { λ f. f.faults };
+    ghost faults = { folder_faults };
 
-    fn list(&mut self, _alloc: Global, folder: &Path) -> Result<Vec<Entry>, ListEnd> {
-        match self.listing(folder) {
+    fn list(&mut self, alloc: Global, folder: &Path) -> Result<Vec<Entry>, ListEnd> {
+        match self.listing(alloc, folder) {
             Ok(entries) => {
                 if is_listing(folder, &entries) {
                     Ok(entries)

@@ -2,7 +2,7 @@
 ghost use Rattle.std.specs.Prelude.{◌≡◌, [], IsTrue};
 ghost use Rattle.std.specs.List.{list_all};
 ghost use Rattle.md_source.specs.Tree.{IsListing, IsContent, entries_of, has_folder};
-ghost use Rattle.md_source.specs.Listing.{is_file, is_below, is_ascending};
+ghost use Rattle.md_source.specs.Listing.{is_file, is_below, is_ascending, are_ordered, is_ordered};
 
 use crate::Entry;
 use md_value::{HIGH, Items, LOW, Path};
@@ -76,7 +76,8 @@ fn are_ascending_files(files: &[(Entry, Items<u8>)]) -> bool
 }
 
 fn have_distinct_paths(files: &[(Entry, Items<u8>)]) -> bool
-    ensures { IsTrue result → IsListing [] (entries_of files.now) }
+    ensures exact { result ≡ are_ordered (entries_of files.now) }
+    ensures listing { IsTrue result → IsListing [] (entries_of files.now) }
 {
     are_files(files) && are_ascending_files(files)
 }
@@ -90,7 +91,8 @@ fn has_root(alloc: Global, folders: &[Path]) -> bool
 /// Whether a tree may hold these folders and files: the root is among the folders, and the files ascend by
 /// path, are not the root and were changed at moments. It takes no memory.
 pub fn is_content(alloc: Global, folders: &[Path], files: &[(Entry, Items<u8>)]) -> bool
-    ensures { IsTrue result → IsContent (record { folders = folders.now; files = files.now }) }
+    ensures exact { result ≡ is_ordered (record { folders = folders.now; files = files.now }) }
+    ensures content { IsTrue result → IsContent (record { folders = folders.now; files = files.now }) }
 {
     has_root(alloc, folders) && have_distinct_paths(files)
 }

@@ -1,5 +1,6 @@
 // The machine's clock.
-ghost use Rattle.std.specs.Prelude.{None};
+ghost use Rattle.std.specs.Prelude.{◌≡◌, None};
+ghost use Rattle.md_source.specs.Adapters.{clock_faults};
 
 use crate::fault::count_fault;
 use crate::{Clock, Failed};
@@ -15,7 +16,9 @@ pub struct MachineClock<R> {
 
 impl<R: time::Clock> MachineClock<R> {
     /// The clock, with no fault yet.
-    pub fn new(rt: R) -> MachineClock<R> {
+    pub fn new(rt: R) -> MachineClock<R>
+        ensures { clock_faults result ≡ 0 }
+    {
         MachineClock { rt, faults: 0 }
     }
 }
@@ -34,7 +37,7 @@ fn seconds<R: time::Clock>(rt: &R) -> Result<u64, Failed> {
 impl<R: time::Clock> Clock for MachineClock<R> {
     ghost moment = { λ c. None };
 
-    ghost faults = { λ c. c.faults };
+    ghost faults = { clock_faults };
 
     fn now(&mut self) -> Result<i64, Failed> {
         match seconds(&self.rt) {

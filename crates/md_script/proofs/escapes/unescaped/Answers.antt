@@ -1,4 +1,4 @@
-use Rattle.std.proofs.Common.{◌≡◌, ◌++◌, ◌∷◌, [], false, rules}
+use Rattle.std.proofs.Common.{false, rules}
 use Rattle.md_script.specs.Escapes.{unescaped_after}
 use Rattle.md_script.proofs.Unescaping.{add_step, fail_step}
 use Rattle.md_script.proofs.escapes.unescaped.Goals as goal

@@ -1,4 +1,4 @@
-use Rattle.std.proofs.Common.{◌≡◌, ◌+◌, ◌≤◌, [], length}
+use Rattle.std.proofs.Common.{◌≡◌, ◌+◌, [], length}
 use Rattle.std.specs.Str.Lines.{lines}
 use Rattle.md_script.proofs.Outcomes.{outcome}
 use Rattle.md_script.proofs.read.read_script.Given as goal

@@ -1,5 +1,4 @@
-use Rattle.std.proofs.Common.{◌≡◌, true, false, rules}
-use Rattle.md_script.specs.Words.{is_numeral}
+use Rattle.std.proofs.Common.{rules}
 use Rattle.md_script.proofs.Numerals.{no_number, no_text, parsed, not_parsed}
 use Rattle.md_script.proofs.words.query_number.Goals as goal
 

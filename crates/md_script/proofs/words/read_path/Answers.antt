@@ -1,4 +1,4 @@
-use Rattle.std.proofs.Common.{◌≡◌, ◌∙◌, true, false, rules}
+use Rattle.std.proofs.Common.{◌∙◌, rules}
 use Rattle.md_script.proofs.Reading.{path_read, path_bad}
 use Rattle.md_script.proofs.words.read_path.Goals as goal
 

@@ -1,0 +1,45 @@
+-- What reading a text answers, as a function.
+use Rattle.std.specs.Prelude.{◌≡◌, ◌≢◌, ◌⊎◌, ℕ, zero, suc, false, if◌then◌else◌, nat_lt, List, [], ◌∷◌, length, Option, Some, None, Result, Ok, Err, chars}
+use Rattle.std.specs.Option.{option_map, option_and_then}
+use Rattle.md_expr_tree.specs.declared.tree.Expr.{Expr}
+use Rattle.md_expr_tree.specs.declared.token.Token.{Token}
+use Rattle.md_expr_tree.specs.declared.token.Item.{Item}
+use Rattle.md_expr_tree.specs.Classes.{is_blank}
+use Rattle.md_expr_tree.specs.Counts.{comparisons}
+use Rattle.md_expr_lex.specs.Find.{token_at}
+use Rattle.md_expr_parse.specs.Group.{group}
+use Rattle.md_expr_parse.specs.Machine.{run}
+use Rattle.md_expr_parse.specs.Survey.{deepest}
+use Rattle.md_expr_parse.specs.declared.read.ReadError.{ReadError}
+use Rattle.md_expr_parse.specs.declared.read.ReadError.TheVariants as error
+use Rattle.md_expr.specs.Answer.{Answers}
+
+-- the tokens of the characters, where these are at most so many
+unfoldable pub lex : ℕ → List ℕ → Option (List Token)
+lex zero [] = Some []
+lex zero (c ∷ cs) = None
+lex (suc n) [] = Some []
+lex (suc n) (c ∷ cs) = if is_blank c then lex n cs else option_and_then (λ found. option_map (λ ts. found.0 ∷ ts) (lex n found.1)) (token_at (c ∷ cs))
+
+-- the expression of the items, and how many groups are open at one place at most
+unfoldable pub built : List Item → Option (Expr × ℕ)
+built is = option_map (λ e. (e, deepest 0 is)) (run false [] [] [] is)
+
+-- the same of characters
+unfoldable pub reading : List ℕ → Option (Expr × ℕ)
+reading text = option_and_then built (option_and_then (group 0) (lex (length text) text))
+
+-- within 64 groups and 4,096 comparisons
+unfoldable pub limited : Option (Expr × ℕ) → Result Expr ReadError
+limited None = Err error.NotExpression
+limited (Some (e, groups)) = if nat_lt 64 groups then Err error.TooDeep else (if nat_lt 4096 (comparisons e) then Err error.TooMany else Ok e)
+
+-- what reading a text in bytes answers, unless memory runs out
+unfoldable pub outcome : List ℕ → Result Expr ReadError
+outcome text = if nat_lt 65536 (length text) then Err error.TooLong else limited (reading (chars text))
+
+-- the outcome is an answer, and every other answer is want of memory
+pub record IsAnswer (text : List ℕ) : Type 0 where
+  pub answers : Answers (outcome text) text
+  pub only : (r : Result Expr ReadError) → Answers r text → (r ≡ outcome text) ⊎ (r ≡ Err error.Memory)
+  pub decided : outcome text ≢ Err error.Memory

@@ -1,0 +1,3 @@
+mod Fits
+mod Texts
+pub mod Well

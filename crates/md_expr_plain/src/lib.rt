@@ -1,0 +1,10 @@
+//! Plain search texts and names as expressions.
+#![tactic(auto)]
+
+mod plain;
+mod words;
+
+pub use plain::{MOST_BYTES, interpret, named};
+
+#[cfg(test)]
+mod tests;

@@ -1,0 +1,9 @@
+pub mod Again
+pub mod Appended
+pub mod Chains
+pub mod Decimals
+pub mod Digits
+pub mod Joins
+pub mod Quoted
+pub mod Spellable
+pub mod Timed

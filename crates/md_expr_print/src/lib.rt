@@ -1,0 +1,13 @@
+//! The canonical spelling of query expressions.
+#![tactic(auto)]
+
+mod comparisons;
+mod exprs;
+mod laws;
+mod literals;
+mod pushes;
+#[cfg(test)]
+mod tests;
+
+pub use exprs::print;
+pub use laws::spelling_reads_back;

@@ -1,0 +1,4 @@
+pub mod Checks
+pub mod Times
+pub mod Trees
+pub mod Words

@@ -1,0 +1,5 @@
+pub mod Meets
+pub mod Satisfies
+pub mod Forms
+pub mod Conditions
+pub mod Ready

@@ -1,0 +1,15 @@
+//! The meaning of query expressions, and filters of rows.
+#![tactic(auto)]
+
+mod check;
+mod filter;
+mod forms;
+pub mod laws;
+mod local;
+mod ready;
+mod wanted;
+
+pub use filter::{Filter, FilterError};
+
+#[cfg(test)]
+mod tests;
