@@ -1,7 +1,7 @@
 use Rattle.std.proofs.Common.{◌&&◌, ◌∙◌, ◌-◌, sym, ap, arith, bytes_eq, drop, length, length-drop, ℕ}
 use Rattle.std.proofs.lemmas.List.{take_all}
 use Rattle.imp_kind.specs.Kinds.{has_ending, lowercase}
-use Rattle.imp_kind.proofs.Tests.{same_texts, at_most}
+use Rattle.imp_kind.proofs.Decided.{same_texts, at_most}
 use Rattle.imp_kind.proofs.kind.has_ending.Goals as goal
 
 pub returns-then-ending-name : goal.returns-then-ending-name
