@@ -100,12 +100,17 @@ fn faults(alloc: Global, size: u64, bytes: &[u8]) -> Result<String, Fail> {
     shown(alloc, "a.json", size, bytes)
 }
 
+// A JSON file of so many letters.
+fn letters(alloc: Global, count: usize) -> Result<String, Fail> {
+    let bytes = vec![in alloc; b'a'; count]?;
+    faults(alloc, 0, &bytes)
+}
+
 #[test]
 fn finds_the_first_fault(rt: HostRuntime) -> Result<(), Fail> {
     let alloc = rt.alloc();
-    let large = vec![in alloc; b'a'; 16_777_217]?;
-    assert_eq!(rt; faults(alloc, 0, &large)?.as_str(), "TooLarge 16777217");
-    assert_eq!(rt; faults(alloc, 0, &large[..16_777_216])?.as_str(), "NotJson");
+    assert_eq!(rt; letters(alloc, 16_777_217)?.as_str(), "TooLarge 16777217");
+    assert_eq!(rt; letters(alloc, 16_777_216)?.as_str(), "NotJson");
     assert_eq!(rt;
         faults(alloc, 16_777_218, b"\xff")?.as_str(),
         "TooLarge 16777218"
