@@ -1,5 +1,5 @@
 -- The moment of an ISO text is in range.
-use Rattle.std.proofs.Common.{◌≡◌, ℕ, ℤ, ◌≤ℤ◌, int_lt, Bool, true, false, not, ◌&&◌, List, Option, Some, None, Result, Ok, Err, cond, arith, refl, subst}
+use Rattle.std.proofs.Common.{◌≡◌, ℕ, ℤ, ◌≤ℤ◌, int_lt, Bool, true, false, not, List, Option, Some, None, Ok, cond, arith, refl, subst}
 use Rattle.std.proofs.lemmas.Bool.{and_parts}
 use Rattle.std.proofs.lemmas.Int.{ints}
 use Rattle.md_time.specs.IsoTexts.{is_iso}

@@ -1,6 +1,6 @@
 -- What is given, one after another, and what holds of all of it.
-use Rattle.std.proofs.Common.{◌≡◌, ℕ, Bool, true, false, not, List, [], ◌∷◌, ◌++◌, map, All, Result, Ok, Err, IfOk, drop, refl, sym, ap, ◌∙◌, subst, append_assoc, append-nil, get_or}
-use Rattle.std.specs.List.{list_any, AllByRecursion, flat_map, join_with_byte}
+use Rattle.std.proofs.Common.{◌≡◌, ℕ, true, false, not, List, [], ◌∷◌, ◌++◌, map, All, Result, Ok, Err, IfOk, drop, refl, sym, ap, ◌∙◌, subst, append_assoc, append-nil, get_or}
+use Rattle.std.specs.List.{list_any, AllByRecursion}
 use Rattle.std.proofs.lemmas.List.Elements.{All-nil, All-cons}
 use Rattle.md_value.specs.Values.{IsInRange, kind_of, same_kind, is_mixed}
 use Rattle.md_value.specs.declared.fault.Fault.{Fault}

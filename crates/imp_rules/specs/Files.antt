@@ -1,6 +1,6 @@
 -- The attributes that the content of a file sets.
-use Rattle.std.specs.Prelude.{◌≡◌, ℕ, Bool, List, [], ◌∷◌, map, filter, chars, codes, Result}
-use Rattle.std.specs.List.{list_all, fold}
+use Rattle.std.specs.Prelude.{ℕ, Bool, List, [], ◌∷◌, map, filter, chars, codes, Result}
+use Rattle.std.specs.List.{fold}
 use Rattle.std.specs.Borrow.{Bor}
 use Rattle.md_value.specs.Attrs.{Attr, put}
 use Rattle.md_value.specs.Name.{is_name}
