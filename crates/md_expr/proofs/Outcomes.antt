@@ -16,7 +16,9 @@ use Rattle.md_expr_parse.specs.declared.read.ReadError.{ReadError}
 use Rattle.md_expr_parse.specs.declared.read.ReadError.TheVariants as error
 use Rattle.md_expr_parse.proofs.Complete.{expression_runs}
 use Rattle.md_expr_parse.proofs.Exact.{told, found}
+use Rattle.md_expr_print.proofs.Again.{read_again}
 use Rattle.md_expr.specs.Answer.{Answers}
+use Rattle.md_expr.specs.Printed.{IsReadBack}
 use Rattle.md_expr.specs.Outcome.{lex, built, reading, limited, outcome, IsAnswer}
 use Rattle.md_expr.proofs.Lexed.{lexed, lex_sound}
 
@@ -149,3 +151,13 @@ outcome_read text e (inr h) = cc
 pub outcome_refused : (text : List ℕ) (x : ReadError) → x ≢ error.Memory → (Err x ≡ outcome text) ⊎ ◌≡◌ {A = Result Expr ReadError} (Err x) (Err error.Memory) → result_ok (outcome text) ≡ None
 outcome_refused text x other (inl h) = sym (ap result_ok h)
 outcome_refused text x other (inr h) = let same : x ≡ error.Memory = cc in absurd (other same)
+
+-- what is printed is read back
+pub read_back : (e : Expr) (text : List ℕ) → IsReadBack e text
+read_back e text fit is short groups few =
+    let r : Reads (chars text) e = subst (λ (cs : List ℕ). Reads cs e) (sym is) (read_again e fit) in
+    let answers : Answers (Ok e) text = (short, r, groups r, few) in
+    elim ((is_answer text).only (Ok e) answers) [
+      | inl same ↦ sym same
+      | inr want ↦ let wrong : ◌≡◌ {A = Result Expr ReadError} (Ok e) (Err error.Memory) = want in cc (wrong)
+    ]

@@ -3,6 +3,7 @@ ghost use Rattle.std.specs.Prelude.{◌≡◌, ◌⊎◌, IfOk, Err, true, chars
 ghost use Rattle.md_expr_tree.specs.WellMade.{is_well_made};
 ghost use Rattle.md_expr_parse.specs.declared.read.ReadError.TheVariants.{Memory};
 ghost use Rattle.md_expr.specs.Answer.{Answers, HasOneReading};
+ghost use Rattle.md_expr.specs.Printed.{IsReadBack};
 ghost use Rattle.md_expr.specs.Outcome.{outcome, IsAnswer};
 
 use md_expr_lex::{characters, tokens_of};
@@ -40,4 +41,10 @@ pub fn one_reading(text: &str)
 /// A law: what reading a text answers can be computed, and want of memory is the only other answer.
 pub fn one_outcome(text: &str)
     ensures { IsAnswer text.now }
+{}
+
+/// A law: what is printed of an expression that some text reads as is read back as that expression, where the spelling
+/// has at most 65,536 bytes, at most 64 groups open at one place and at most 4,096 comparisons.
+pub fn printed_is_read(expr: &Expr, text: &str)
+    ensures { IsReadBack expr.now text.now }
 {}
