@@ -11,17 +11,7 @@ import subprocess
 import tempfile
 
 ROOT = pathlib.Path(__file__).resolve().parents[2]
-CRATES = [
-    "md_value",
-    "md_text",
-    "md_time",
-    "md_world",
-    "md_expr_tree",
-    "md_expr_lex",
-    "md_expr_parse",
-    "md_expr",
-    "md_match",
-]
+USED = ["md_match", "md_expr", "md_world", "md_value"]
 
 PROGRAM = """//! Times filters.
 #![tactic(auto)]
@@ -195,15 +185,26 @@ fn main() {
 """
 
 
+def below(used, lines):
+    """The repository's crates that these stand on, and these."""
+    deps = {line.split(":")[0]: line.split(":")[1].split() for line in lines if ":" in line}
+    found = []
+    left = list(used)
+    while left:
+        crate = left.pop()
+        if crate in deps and crate not in found:
+            found.append(crate)
+            left += deps[crate]
+    return found
+
+
 def run_filters(top):
-    for crate in CRATES:
+    lines = (ROOT / "crates.txt").read_text().splitlines()
+    crates = below(USED, lines)
+    for crate in crates:
         shutil.copytree(ROOT / "crates" / crate, top / "crates" / crate, ignore=shutil.ignore_patterns("out"))
-    lines = [
-        line
-        for line in (ROOT / "crates.txt").read_text().splitlines()
-        if line.split(":")[0] in CRATES
-    ]
-    lines.append("speed: md_match md_expr md_world md_value anyhow")
+    lines = [line for line in lines if line.split(":")[0] in crates]
+    lines.append(f"speed: {' '.join(USED)} anyhow")
     (top / "crates.txt").write_text("\n".join(lines) + "\n")
     source = top / "crates" / "speed" / "src"
     source.mkdir(parents=True)
