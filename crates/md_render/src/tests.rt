@@ -1,4 +1,5 @@
 use crate::{entry_text, escaped, push_held, push_unheld};
+use md_expr_tree::{Expr, Literal, Op, Subject, Test};
 use md_machine::{Batch, Event, Reply, Spec};
 use md_value::{Attrs, Items, Path};
 use md_world::{Change, Notice, Part, Row, Rows};
@@ -33,9 +34,16 @@ fn create(alloc: Global) -> Event {
         update: None,
         ms: None,
     };
+    let expr = Expr::Test(Test::Compare {
+        subject: Subject::Some,
+        op: Op::Equal,
+        literal: Literal::Present,
+    });
     let spec = Spec {
+        expr,
+        now: 0,
+        offset: 0,
         scope: Path::root(alloc),
-        name: None,
         batch,
     };
     Event::Create {

@@ -22,9 +22,9 @@ is_ascending (entry ∷ []) = true
 is_ascending (entry ∷ next ∷ entries) = is_before entry.path next.path && is_ascending (next ∷ entries)
 
 -- entries of files, ascending by path
-abbrev pub are_ordered : List Entry → Bool
+unfoldable pub are_ordered : List Entry → Bool
 are_ordered entries = list_all is_file entries && is_ascending entries
 
 -- the root is among the folders, and the files ascend by path, are not the root and were changed at moments
-abbrev pub is_ordered : Content → Bool
+unfoldable pub is_ordered : Content → Bool
 is_ordered content = has_folder content.folders [] && are_ordered (entries_of content.files)

@@ -75,6 +75,7 @@ fn are_ascending_files(files: &[(Entry, Items<u8>)]) -> bool
     true
 }
 
+#[tactic(auto, unfolding(crate::specs::Listing::are_ordered))]
 fn have_distinct_paths(files: &[(Entry, Items<u8>)]) -> bool
     ensures exact { result ≡ are_ordered (entries_of files.now) }
     ensures listing { IsTrue result → IsListing [] (entries_of files.now) }
@@ -90,6 +91,7 @@ fn has_root(alloc: Global, folders: &[Path]) -> bool
 
 /// Whether a tree may hold these folders and files: the root is among the folders, and the files ascend by
 /// path, are not the root and were changed at moments. It takes no memory.
+#[tactic(auto, unfolding(crate::specs::Listing::is_ordered))]
 pub fn is_content(alloc: Global, folders: &[Path], files: &[(Entry, Items<u8>)]) -> bool
     ensures exact { result ≡ is_ordered (record { folders = folders.now; files = files.now }) }
     ensures content { IsTrue result → IsContent (record { folders = folders.now; files = files.now }) }

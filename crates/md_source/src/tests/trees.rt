@@ -69,47 +69,119 @@ fn found<T: Tree>(alloc: Global, tree: &mut T, file: &str) -> Result<Result<u64,
     }
 }
 
-#[test]
-fn trees_in_memory_are_read(rt: HostRuntime) -> Result<(), Fail> {
-    let alloc = rt.alloc();
+// The size of a file and its first two bytes, or how looking for it ended.
+fn shown<T: Tree>(alloc: Global, tree: &mut T, file: &str) -> Result<String, Fail> {
+    let file = path(alloc, file)?;
+    let size = match tree.find(alloc, &file) {
+        Ok(entry) => entry.size,
+        Err(end) => return Ok(String::from_str(alloc, end_text(end))?),
+    };
+    match tree.read(alloc, &file, 2) {
+        Ok(bytes) => {
+            let front = String::from_utf8_lossy(alloc, &bytes)?;
+            Ok(format!(in alloc; "{size} {front}")?)
+        }
+        Err(end) => Ok(String::from_str(alloc, end_text(end))?),
+    }
+}
+
+fn folders_of(alloc: Global, names: &[&str]) -> Result<Vec<Path>, Fail> {
     let mut folders = Vec::new(alloc);
-    folders.push(Path::root(alloc))?;
-    folders.push(path(alloc, "docs")?)?;
+    for name in names {
+        folders.push(path(alloc, name)?)?;
+    }
+    Ok(folders)
+}
+
+// Files of these paths, each with three bytes.
+fn files_of(alloc: Global, names: &[&str]) -> Result<Vec<(Entry, Items<u8>)>, Fail> {
     let mut files = Vec::new(alloc);
-    for name in ["a.txt", "b.txt", "docs/c.txt"] {
+    for name in names {
         files.push(file(alloc, name, "abc")?)?;
     }
-    assert!(rt; is_content(alloc, &folders, &files));
-    // The calls of the numbers 2 and 5 fail.
-    let mut tree = MemoryTree::new(folders, files, Vec::from_slice(alloc, &[2, 5])?);
-    assert_eq!(rt;
-        listed(alloc, &mut tree, "")?.as_str(),
-        "a.txt b.txt docs/c.txt "
-    );
-    assert_eq!(rt;
-        read(alloc, &mut tree, "a.txt", 2)?.as_slice(),
-        b"ab".as_slice()
-    );
-    assert_eq!(rt;
-        read(alloc, &mut tree, "b.txt", 9)?.as_slice(),
-        b"failed".as_slice()
-    );
-    assert_eq!(rt; listed(alloc, &mut tree, "docs")?.as_str(), "docs/c.txt ");
-    assert_eq!(rt; found(alloc, &mut tree, "docs/c.txt")?, Ok(3));
-    assert_eq!(rt; listed(alloc, &mut tree, "nowhere")?.as_str(), "failed");
-    assert_eq!(rt; listed(alloc, &mut tree, "nowhere")?.as_str(), "absent");
-    assert_eq!(rt; found(alloc, &mut tree, "docs")?, Err(ReadEnd::Absent));
-    assert_eq!(rt;
-        read(alloc, &mut tree, "c.txt", 9)?.as_slice(),
-        b"absent".as_slice()
-    );
+    Ok(files)
+}
 
-    let mut folders = Vec::new(alloc);
-    folders.push(Path::root(alloc))?;
-    let files = Vec::new(alloc);
-    assert!(rt; is_content(alloc, &folders, &files));
-    let mut empty = SureTree::new(folders, files);
-    assert_eq!(rt; listed(alloc, &mut empty, "")?.as_str(), "");
+fn memory_tree(
+    alloc: Global,
+    folders: &[&str],
+    files: &[&str],
+    fails: &[u64],
+) -> Result<Option<MemoryTree>, Fail> {
+    let folders = folders_of(alloc, folders)?;
+    let files = files_of(alloc, files)?;
+    let fails = Vec::from_slice(alloc, fails)?;
+    if !is_content(alloc, &folders, &files) {
+        return Ok(None);
+    }
+    Ok(Some(MemoryTree::new(folders, files, fails)))
+}
+
+fn sure_tree(alloc: Global, folders: &[&str], files: &[&str]) -> Result<Option<SureTree>, Fail> {
+    let folders = folders_of(alloc, folders)?;
+    let files = files_of(alloc, files)?;
+    if !is_content(alloc, &folders, &files) {
+        return Ok(None);
+    }
+    Ok(Some(SureTree::new(folders, files)))
+}
+
+// The answers of one tree, each followed by a line feed.
+fn answers<T: Tree>(
+    alloc: Global,
+    tree: &mut T,
+    folders: &[&str],
+    files: &[&str],
+) -> Result<String, Fail> {
+    let mut text = String::new(alloc);
+    for folder in folders {
+        text.push_str(listed(alloc, tree, folder)?.as_str())?;
+        text.push('\n')?;
+    }
+    for file in files {
+        text.push_str(shown(alloc, tree, file)?.as_str())?;
+        text.push('\n')?;
+    }
+    Ok(text)
+}
+
+#[test]
+fn a_tree_that_fails_is_read(rt: HostRuntime) -> Result<(), Fail> {
+    let alloc = rt.alloc();
+    let files = ["a.txt", "b.txt", "docs/c.txt"];
+    // The calls of the numbers 1 and 4 fail.
+    let Some(mut tree) = memory_tree(alloc, &["", "docs"], &files, &[1, 4])? else {
+        return Err(Fail::new("a tree may hold these files"));
+    };
+    let text = answers(
+        alloc,
+        &mut tree,
+        &["", "docs", "docs", "nowhere"],
+        &["a.txt", "docs/c.txt", "docs", "c.txt"],
+    )?;
+    assert_eq!(rt;
+        text.as_str(),
+        "a.txt b.txt docs/c.txt \nfailed\ndocs/c.txt \nabsent\nfailed\n3 ab\nabsent\nabsent\n"
+    );
+    Ok(())
+}
+
+#[test]
+fn a_tree_that_never_fails_is_read(rt: HostRuntime) -> Result<(), Fail> {
+    let alloc = rt.alloc();
+    let Some(mut tree) = sure_tree(alloc, &[""], &["a.txt"])? else {
+        return Err(Fail::new("a tree may hold one file"));
+    };
+    let text = answers(alloc, &mut tree, &["", "x"], &["a.txt", "b.txt"])?;
+    assert_eq!(rt; text.as_str(), "a.txt \nabsent\n3 ab\nabsent\n");
+    Ok(())
+}
+
+#[test]
+fn no_tree_holds_these(rt: HostRuntime) -> Result<(), Fail> {
+    let alloc = rt.alloc();
+    assert!(rt; sure_tree(alloc, &["docs"], &[])?.is_none());
+    assert!(rt; sure_tree(alloc, &[""], &["b.txt", "a.txt"])?.is_none());
     Ok(())
 }
 
