@@ -1,8 +1,13 @@
--- The words of the program, each seen as its bytes.
-use Rattle.std.specs.Prelude.{ℕ, ◌==◌, ◌||◌, Bool, false, if◌then◌else◌, List, [], ◌∷◌, length, map, Option, Some, None}
+-- The words of the program, and the files that they name.
+use Rattle.std.specs.Prelude.{ℕ, ◌==◌, Bool, false, if◌then◌else◌, List, [], ◌∷◌, length, map, String, string_bytes, Option, Some, None}
+use Rattle.std.specs.Global.{Global}
 use Rattle.std.specs.List.{list_any}
 use Rattle.std.specs.Option.{option_and_then}
 use Rattle.md_value.specs.Path.{is_bad, normal}
+
+-- the words as their bytes
+abbrev pub texts : List (String Global) → List (List ℕ)
+texts words = map (λ word. string_bytes word) words
 
 unfoldable pub begins_with_dash : List ℕ → Bool
 begins_with_dash [] = false

@@ -39,15 +39,22 @@ pub enum Tool {
         files: Items<Path>,
     },
     /// `mdimport`: the import of files and of folders.
-    Import { files: Items<Path> },
+    Import {
+        files: Items<Path>,
+    },
     /// `mdimport -L`: the importers.
     Importers,
     /// `mdimport -A`: the attributes of the schema.
     Attributes,
     /// `live`: the run of a script, by this many workers if any are asked for; no reader gives workers yet.
-    Live { workers: Option<u32> },
+    Live {
+        workers: Option<u32>,
+    },
     /// `gen`: `count` files and a script that are made from `start`; no reader gives it yet.
-    Gen { start: u64, count: u32 },
+    Gen {
+        start: u64,
+        count: u32,
+    },
 }
 
 /// How a search text is read.

@@ -1,7 +1,7 @@
 // The files that words name.
-ghost use Rattle.std.specs.Prelude.{◌≡◌, map, string_bytes, IfOk, Some, None, if◌then◌else◌};
+ghost use Rattle.std.specs.Prelude.{◌≡◌, IfOk, Some, None, if◌then◌else◌};
 ghost use Rattle.std.specs.List.{list_any};
-ghost use Rattle.md_words.specs.Words.{path_of, paths_of, files_of, files_below_root, is_root};
+ghost use Rattle.md_words.specs.Words.{texts, path_of, paths_of, files_of, files_below_root, is_root};
 
 use crate::word::first_word;
 use md_value::{Items, Path, PathError};
@@ -19,7 +19,7 @@ fn path_of(alloc: Global, word: &str) -> Result<Option<Path>, AllocError>
 }
 
 fn paths_of(alloc: Global, words: &[String]) -> Result<Option<Items<Path>>, AllocError>
-    ensures { IfOk result (λ paths. paths ≡ paths_of (map (λ word. string_bytes word) words.now)) }
+    ensures { IfOk result (λ paths. paths ≡ paths_of (texts words.now)) }
 {
     let mut paths = Items::new(alloc);
     let mut rest = words;
@@ -36,7 +36,7 @@ fn paths_of(alloc: Global, words: &[String]) -> Result<Option<Items<Path>>, Allo
 /// The paths of one file or more: `None` where there is no word, or one is no path.
 #[tactic(auto, unfolding(crate::specs::Words::files_of))]
 pub fn files_of(alloc: Global, words: &[String]) -> Result<Option<Items<Path>>, AllocError>
-    ensures { IfOk result (λ files. files ≡ files_of (map (λ word. string_bytes word) words.now)) }
+    ensures { IfOk result (λ files. files ≡ files_of (texts words.now)) }
 {
     if words.is_empty() {
         return Ok(None);
@@ -62,7 +62,7 @@ fn below_root(files: Items<Path>) -> Option<Items<Path>>
 /// The paths of one file or more, none of which is the root.
 #[tactic(auto, unfolding(crate::specs::Words::files_below_root))]
 pub fn files_below_root(alloc: Global, words: &[String]) -> Result<Option<Items<Path>>, AllocError>
-    ensures { IfOk result (λ files. files ≡ files_below_root (map (λ word. string_bytes word) words.now)) }
+    ensures { IfOk result (λ files. files ≡ files_below_root (texts words.now)) }
 {
     match files_of(alloc, words)? {
         Some(files) => Ok(below_root(files)),

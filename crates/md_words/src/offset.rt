@@ -1,5 +1,5 @@
 // The offset of local time.
-ghost use Rattle.std.specs.Prelude.{◌≡◌, ◌<◌, ◌≤◌, IfSome, pos, neg_ℤ};
+ghost use Rattle.std.specs.Prelude.{◌≡◌, ◌<◌, IfSome, unsigned_abs};
 ghost use Rattle.md_words.specs.Offsets.{two_digits, minutes_of, signed, offset_of};
 
 // The number below the limit that two digits write.
@@ -27,7 +27,8 @@ fn minutes_of(h: u8, hh: u8, m: u8, mm: u8) -> Option<u32>
 
 fn with_sign(sign: u8, minutes: u32) -> Option<i32>
     requires { minutes < 1440 }
-    ensures { result ≡ signed sign minutes }
+    ensures value { result ≡ signed sign minutes }
+    ensures bound { IfSome result (λ offset. unsigned_abs offset < 1440) }
 {
     match sign {
         b'+' => Some(minutes as i32),
@@ -39,7 +40,8 @@ fn with_sign(sign: u8, minutes: u32) -> Option<i32>
 /// The minutes by which local time is ahead of UTC, as the word writes them: `Z`, `+HHMM`, `-HHMM`, `+HH:MM` or `-HH:MM`.
 #[tactic(auto, unfolding(crate::specs::Offsets::offset_of))]
 pub fn offset_of(word: &str) -> Option<i32>
-    ensures { result ≡ offset_of word.now }
+    ensures value { result ≡ offset_of word.now }
+    ensures bound { IfSome result (λ offset. unsigned_abs offset < 1440) }
 {
     match word.as_bytes() {
         [b'Z'] => Some(0),

@@ -1,8 +1,8 @@
 // The options of `mdls`.
-ghost use Rattle.std.specs.Prelude.{◌≡◌, ◌≤◌, ◌∷◌, ℕ, List, false, true, length, map, string_bytes, IfOk, MatchOption, Some, None, codes, bytes_eq, if◌then◌else◌};
+ghost use Rattle.std.specs.Prelude.{◌≡◌, ◌≤◌, ◌∷◌, ℕ, List, false, true, length, IfOk, MatchOption, Some, None, codes, bytes_eq, if◌then◌else◌};
 ghost use Rattle.std.specs.Option.{option_map, option_and_then};
 ghost use Rattle.md_value.specs.Name.{is_name};
-ghost use Rattle.md_words.specs.Words.{begins_with_dash};
+ghost use Rattle.md_words.specs.Words.{texts, begins_with_dash};
 ghost use Rattle.md_words.specs.Options.{no_options, with_raw, joined, options_from, options_of, option, text, name};
 
 use crate::Word;
@@ -42,8 +42,8 @@ impl Options {
     // Takes `-raw` in, unless it stands already, and answers the words after it.
     fn take_raw<'a>(&mut self, words: &'a [String]) -> Option<&'a [String]>
         ensures { MatchOption result
-            (joined self.old (option_and_then with_raw (options_from option (map (λ word. string_bytes word) words.now))) ≡ None)
-            (λ rest. (joined self.old (option_and_then with_raw (options_from option (map (λ word. string_bytes word) words.now))) ≡ joined self.new (options_from option (map (λ word. string_bytes word) rest.now))) × (length rest.now ≤ length words.now)) }
+            (joined self.old (option_and_then with_raw (options_from option (texts words.now))) ≡ None)
+            (λ rest. (joined self.old (option_and_then with_raw (options_from option (texts words.now))) ≡ joined self.new (options_from option (texts rest.now))) × (length rest.now ≤ length words.now)) }
     {
         if self.raw {
             return None;
@@ -53,10 +53,14 @@ impl Options {
     }
 
     // Takes in the TEXT of `-nullMarker`, unless one stands already, and answers the words after it.
-    fn take_marker<'a>(&mut self, alloc: Global, words: &'a [String]) -> Result<Option<&'a [String]>, AllocError>
+    fn take_marker<'a>(
+        &mut self,
+        alloc: Global,
+        words: &'a [String],
+    ) -> Result<Option<&'a [String]>, AllocError>
         ensures { IfOk result (λ r. MatchOption r
-            (joined self.old (options_from text (map (λ word. string_bytes word) words.now)) ≡ None)
-            (λ rest. (joined self.old (options_from text (map (λ word. string_bytes word) words.now)) ≡ joined self.new (options_from option (map (λ word. string_bytes word) rest.now))) × (length rest.now ≤ length words.now))) }
+            (joined self.old (options_from text (texts words.now)) ≡ None)
+            (λ rest. (joined self.old (options_from text (texts words.now)) ≡ joined self.new (options_from option (texts rest.now))) × (length rest.now ≤ length words.now))) }
     {
         let Some((word, rest)) = first_word(words) else {
             return Ok(None);
@@ -69,10 +73,14 @@ impl Options {
     }
 
     // Takes in the NAME of `-name`, and answers the words after it.
-    fn take_name<'a>(&mut self, alloc: Global, words: &'a [String]) -> Result<Option<&'a [String]>, AllocError>
+    fn take_name<'a>(
+        &mut self,
+        alloc: Global,
+        words: &'a [String],
+    ) -> Result<Option<&'a [String]>, AllocError>
         ensures { IfOk result (λ r. MatchOption r
-            (joined self.old (options_from name (map (λ word. string_bytes word) words.now)) ≡ None)
-            (λ rest. (joined self.old (options_from name (map (λ word. string_bytes word) words.now)) ≡ joined self.new (options_from option (map (λ word. string_bytes word) rest.now))) × (length rest.now ≤ length words.now))) }
+            (joined self.old (options_from name (texts words.now)) ≡ None)
+            (λ rest. (joined self.old (options_from name (texts words.now)) ≡ joined self.new (options_from option (texts rest.now))) × (length rest.now ≤ length words.now))) }
     {
         let Some((word, rest)) = first_word(words) else {
             return Ok(None);
@@ -85,12 +93,17 @@ impl Options {
     }
 
     // Takes in the option that the word begins, and answers the words after it.
-    fn take_option<'a>(&mut self, alloc: Global, word: &str, words: &'a [String]) -> Result<Option<&'a [String]>, AllocError>
+    fn take_option<'a>(
+        &mut self,
+        alloc: Global,
+        word: &str,
+        words: &'a [String],
+    ) -> Result<Option<&'a [String]>, AllocError>
         requires not_end { bytes_eq word.now (codes "--") ≡ false }
         requires dash { begins_with_dash word.now ≡ true }
         ensures { IfOk result (λ r. MatchOption r
-            (joined self.old (options_from option (word.now ∷ map (λ word. string_bytes word) words.now)) ≡ None)
-            (λ rest. (joined self.old (options_from option (word.now ∷ map (λ word. string_bytes word) words.now)) ≡ joined self.new (options_from option (map (λ word. string_bytes word) rest.now))) × (length rest.now ≤ length words.now))) }
+            (joined self.old (options_from option (word.now ∷ texts words.now)) ≡ None)
+            (λ rest. (joined self.old (options_from option (word.now ∷ texts words.now)) ≡ joined self.new (options_from option (texts rest.now))) × (length rest.now ≤ length words.now))) }
     {
         if word == "-raw" {
             return Ok(self.take_raw(words));
@@ -106,8 +119,11 @@ impl Options {
 }
 
 /// What the options of `mdls` say, and the words that follow them.
-pub fn options_of<'a>(alloc: Global, words: &'a [String]) -> Result<Option<(Options, &'a [String])>, AllocError>
-    ensures { IfOk result (λ r. option_map (λ p. (p.0, map (λ word. string_bytes word) p.1.now)) r ≡ options_of (map (λ word. string_bytes word) words.now)) }
+pub fn options_of<'a>(
+    alloc: Global,
+    words: &'a [String],
+) -> Result<Option<(Options, &'a [String])>, AllocError>
+    ensures { IfOk result (λ r. option_map (λ p. (p.0, texts p.1.now)) r ≡ options_of (texts words.now)) }
 {
     let mut options = Options::new(alloc);
     let mut rest = words;

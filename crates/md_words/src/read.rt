@@ -1,5 +1,6 @@
 // The reader of the program's words.
-ghost use Rattle.std.specs.Prelude.{◌≡◌, ◌≤◌, map, string_bytes, IfOk, IsErrOf, Some, None, unsigned_abs};
+ghost use Rattle.std.specs.Prelude.{◌≡◌, ◌<◌, IfOk, IfSome, IsErrOf, Some, None, unsigned_abs};
+ghost use Rattle.md_words.specs.Words.{texts};
 ghost use Rattle.md_words.specs.Grammar.{at_offset, offset_then, command_of};
 
 use crate::offset::offset_of;
@@ -10,7 +11,9 @@ use std::alloc::{AllocError, Global};
 
 #[tactic(auto, unfolding(crate::specs::Grammar::at_offset))]
 fn at_offset(alloc: Global, offset: i32, words: &[String]) -> Result<Option<Command>, AllocError>
-    ensures { IfOk result (λ command. command ≡ at_offset offset (map (λ word. string_bytes word) words.now)) }
+    requires { unsigned_abs offset < 1440 }
+    ensures offset { IfOk result (λ command. IfSome command (λ c. unsigned_abs c.offset < 1440)) }
+    ensures value { IfOk result (λ command. command ≡ at_offset offset (texts words.now)) }
 {
     match tool_of(alloc, words)? {
         Some(what) => Ok(Some(Command { offset, what })),
@@ -20,7 +23,8 @@ fn at_offset(alloc: Global, offset: i32, words: &[String]) -> Result<Option<Comm
 
 #[tactic(auto, unfolding(crate::specs::Grammar::offset_then))]
 fn offset_then(alloc: Global, words: &[String]) -> Result<Option<Command>, AllocError>
-    ensures { IfOk result (λ command. command ≡ offset_then (map (λ word. string_bytes word) words.now)) }
+    ensures offset { IfOk result (λ command. IfSome command (λ c. unsigned_abs c.offset < 1440)) }
+    ensures value { IfOk result (λ command. command ≡ offset_then (texts words.now)) }
 {
     let Some((word, rest)) = first_word(words) else {
         return Ok(None);
@@ -33,7 +37,8 @@ fn offset_then(alloc: Global, words: &[String]) -> Result<Option<Command>, Alloc
 
 #[tactic(auto, unfolding(crate::specs::Grammar::command_of))]
 fn command_of(alloc: Global, words: &[String]) -> Result<Option<Command>, AllocError>
-    ensures { IfOk result (λ command. command ≡ command_of (map (λ word. string_bytes word) words.now)) }
+    ensures offset { IfOk result (λ command. IfSome command (λ c. unsigned_abs c.offset < 1440)) }
+    ensures value { IfOk result (λ command. command ≡ command_of (texts words.now)) }
 {
     let Some((word, rest)) = first_word(words) else {
         return Ok(None);
@@ -59,8 +64,9 @@ fn command_of(alloc: Global, words: &[String]) -> Result<Option<Command>, AllocE
 /// options end at `--` or at the first word that does not begin with `-`. NAME is read by `Name::read` and FILE by
 /// `Path::read`; a FILE of `mdls` is not the root. `Usage` comes exactly where the words are not in this grammar.
 pub fn read_words(alloc: Global, words: &[String]) -> Result<Command, WordsError>
-    ensures ok { IfOk result (λ command. command_of (map (λ word. string_bytes word) words.now) ≡ Some command) }
-    ensures usage { IsErrOf result WordsError.Usage → command_of (map (λ word. string_bytes word) words.now) ≡ None }
+    ensures ok { IfOk result (λ command. command_of (texts words.now) ≡ Some command) }
+    ensures offset { IfOk result (λ command. unsigned_abs command.offset < 1440) }
+    ensures usage { IsErrOf result WordsError.Usage → command_of (texts words.now) ≡ None }
 {
     match command_of(alloc, words)? {
         Some(command) => Ok(command),

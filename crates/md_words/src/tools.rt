@@ -1,7 +1,7 @@
 // The tools, and what words tell them.
-ghost use Rattle.std.specs.Prelude.{◌≡◌, map, string_bytes, IfOk, ◌∷◌, unwrap_or, codes};
+ghost use Rattle.std.specs.Prelude.{◌≡◌, IfOk, ◌∷◌, unwrap_or, codes};
 ghost use Rattle.std.specs.Option.{option_map};
-ghost use Rattle.md_words.specs.Words.{files_of};
+ghost use Rattle.md_words.specs.Words.{texts, files_of};
 ghost use Rattle.md_words.specs.declared.command.Tool.TheVariants.{Import};
 ghost use Rattle.md_words.specs.Grammar.{alone, shown, show_of, import_of, tool_of};
 
@@ -13,7 +13,7 @@ use md_value::{Items, Path};
 use std::alloc::{AllocError, Global};
 
 fn alone(tool: Tool, words: &[String]) -> Option<Tool>
-    ensures { result ≡ alone tool (map (λ word. string_bytes word) words.now) }
+    ensures { result ≡ alone tool (texts words.now) }
 {
     match first_word(words) {
         Some(_) => None,
@@ -45,7 +45,7 @@ fn shown(alloc: Global, options: Options, files: Items<Path>) -> Result<Tool, Al
 
 #[tactic(auto, unfolding(crate::specs::Grammar::show_of))]
 fn show_of(alloc: Global, words: &[String]) -> Result<Option<Tool>, AllocError>
-    ensures { IfOk result (λ tool. tool ≡ show_of (map (λ word. string_bytes word) words.now)) }
+    ensures { IfOk result (λ tool. tool ≡ show_of (texts words.now)) }
 {
     let Some((options, words)) = options_of(alloc, words)? else {
         return Ok(None);
@@ -57,7 +57,7 @@ fn show_of(alloc: Global, words: &[String]) -> Result<Option<Tool>, AllocError>
 }
 
 fn import_files(alloc: Global, words: &[String]) -> Result<Option<Tool>, AllocError>
-    ensures { IfOk result (λ tool. tool ≡ option_map Import (files_of (map (λ word. string_bytes word) words.now))) }
+    ensures { IfOk result (λ tool. tool ≡ option_map Import (files_of (texts words.now))) }
 {
     match files_of(alloc, words)? {
         Some(files) => Ok(Some(Tool::Import { files })),
@@ -67,7 +67,7 @@ fn import_files(alloc: Global, words: &[String]) -> Result<Option<Tool>, AllocEr
 
 #[tactic(auto, unfolding(crate::specs::Grammar::import_of))]
 fn import_of(alloc: Global, words: &[String]) -> Result<Option<Tool>, AllocError>
-    ensures { IfOk result (λ tool. tool ≡ import_of (map (λ word. string_bytes word) words.now)) }
+    ensures { IfOk result (λ tool. tool ≡ import_of (texts words.now)) }
 {
     let Some((word, rest)) = first_word(words) else {
         return Ok(None);
@@ -90,7 +90,7 @@ fn import_of(alloc: Global, words: &[String]) -> Result<Option<Tool>, AllocError
 /// The tool that the words ask for, by its name and what follows it: `None` where they are not in the grammar.
 #[tactic(auto, unfolding(crate::specs::Grammar::tool_of))]
 pub fn tool_of(alloc: Global, words: &[String]) -> Result<Option<Tool>, AllocError>
-    ensures { IfOk result (λ tool. tool ≡ tool_of (map (λ word. string_bytes word) words.now)) }
+    ensures { IfOk result (λ tool. tool ≡ tool_of (texts words.now)) }
 {
     let Some((word, rest)) = first_word(words) else {
         return Ok(None);

@@ -1,6 +1,6 @@
 // The words of the program.
-ghost use Rattle.std.specs.Prelude.{◌≡◌, [], ◌∷◌, ◌<◌, length, map, string_bytes, IfOk, MatchOption};
-ghost use Rattle.md_words.specs.Words.{begins_with_dash};
+ghost use Rattle.std.specs.Prelude.{◌≡◌, [], ◌∷◌, ◌<◌, length, IfOk, MatchOption};
+ghost use Rattle.md_words.specs.Words.{texts, begins_with_dash};
 
 use std::alloc::{AllocError, Global};
 use std::marker::Model;
@@ -39,8 +39,8 @@ impl Word {
 /// The first word, and the others.
 pub fn first_word(words: &[String]) -> Option<(&str, &[String])>
     ensures cases { MatchOption result
-        (map (λ word. string_bytes word) words.now ≡ [])
-        (λ p. (map (λ word. string_bytes word) words.now ≡ p.0.now ∷ map (λ word. string_bytes word) p.1.now) × (length p.1.now < length words.now)) }
+        (texts words.now ≡ [])
+        (λ p. (texts words.now ≡ p.0.now ∷ texts p.1.now) × (length p.1.now < length words.now)) }
 {
     let (word, rest) = words.split_first()?;
     Some((word.as_str(), rest))

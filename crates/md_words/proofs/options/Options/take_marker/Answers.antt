@@ -1,7 +1,8 @@
-use Rattle.std.proofs.Common.{map, string_bytes, rules}
+use Rattle.std.proofs.Common.{rules}
+use Rattle.md_words.specs.Words.{texts}
 use Rattle.md_words.proofs.Joining.{marker_step}
 use Rattle.md_words.proofs.options.Options.take_marker.Goals as goal
 
 pub returns : goal.returns
 returns c =
-    (marker_step c.args.self.now c.in-Some.word.now c.in_ok-of.field-0 (map (λ word. string_bytes word) c.args.words.now) (map (λ word. string_bytes word) c.in-Some.rest.now) (search rules) (search rules) (search rules), search rules)
+    (marker_step c.args.self.now c.in-Some.word.now c.in_ok-of.field-0 (texts c.args.words.now) (texts c.in-Some.rest.now) (search rules) (search rules) (search rules), search rules)
