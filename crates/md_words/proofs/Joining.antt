@@ -1,34 +1,10 @@
 -- Options that were read before, and what the next words say.
-use Rattle.std.proofs.Common.{◌≡◌, ℕ, Bool, true, false, List, [], ◌∷◌, ◌++◌, ◌||◌, ◌&&◌, Option, Some, None, is_some, if◌then◌else◌, refl, sym, ap, append_assoc, append-nil, ◌∙◌, bytes_eq, codes, not}
+use Rattle.std.proofs.Common.{◌≡◌, ℕ, Bool, true, false, List, [], ◌∷◌, ◌++◌, ◌||◌, ◌&&◌, Option, Some, None, is_some, if◌then◌else◌, refl, sym, ap, append_assoc, append-nil, ◌∙◌, bytes_eq, codes}
 use Rattle.std.specs.Option.{option_map, option_and_then, option_or}
 use Rattle.md_value.specs.Name.{is_name}
 use Rattle.md_words.specs.declared.options.Options.{Options}
 use Rattle.md_words.specs.Words.{begins_with_dash}
-use Rattle.md_words.specs.Options.{Read, no_options, with_raw, with_marker, with_name, joined, options_from, options_of, option, text, name}
-
-raw_by : (a b : Bool) (m k : Option (List ℕ)) (ns ms ws : List (List ℕ)) → a ≡ false
-    → joined (record { raw = a; marker = m; names = ns }) (with_raw (record { raw = b; marker = k; names = ms }, ws))
-    ≡ joined (record { raw = true; marker = m; names = ns }) (Some (record { raw = b; marker = k; names = ms }, ws))
-raw_by true b m k ns ms ws is = absurd (cc)
-raw_by false true m k ns ms ws is = refl
-raw_by false false m k ns ms ws is = refl
-
--- `-raw` that stands for the first time goes over to the options before
-pub raw_first : (o : Options) (r : Option Read) → o.raw ≡ false
-    → joined o (option_and_then with_raw r) ≡ joined (record { raw = true; marker = o.marker; names = o.names }) r
-raw_first o None is = refl
-raw_first o (Some r) is = raw_by o.raw r.0.raw o.marker r.0.marker o.names r.0.names r.1 is
-
-raw_again : (a b : Bool) (m k : Option (List ℕ)) (ns ms ws : List (List ℕ)) → a ≡ true
-    → joined (record { raw = a; marker = m; names = ns }) (with_raw (record { raw = b; marker = k; names = ms }, ws)) ≡ None
-raw_again false b m k ns ms ws is = absurd (cc)
-raw_again true true m k ns ms ws is = refl
-raw_again true false m k ns ms ws is = refl
-
--- `-raw` that stands again is refused
-pub raw_twice : (o : Options) (r : Option Read) → o.raw ≡ true → joined o (option_and_then with_raw r) ≡ None
-raw_twice o None is = refl
-raw_twice o (Some r) is = raw_again o.raw r.0.raw o.marker r.0.marker o.names r.0.names r.1 is
+use Rattle.md_words.specs.Options.{Read, no_options, with_marker, with_name, joined, options_from, options_of, option, text, name}
 
 marker_by : (a b : Bool) (m k : Option (List ℕ)) (t : List ℕ) (ns ms ws : List (List ℕ)) → is_some m ≡ false
     → joined (record { raw = a; marker = m; names = ns }) (with_marker t (record { raw = b; marker = k; names = ms }, ws))
@@ -42,26 +18,13 @@ marker_by true false None None t ns ms ws is = refl
 marker_by false b None None t ns ms ws is = refl
 
 -- a marker that stands for the first time goes over to the options before
-pub marker_first : (o : Options) (t : List ℕ) (r : Option Read) → is_some o.marker ≡ false
+marker_first : (o : Options) (t : List ℕ) (r : Option Read) → is_some o.marker ≡ false
     → joined o (option_and_then (with_marker t) r) ≡ joined (record { raw = o.raw; marker = Some t; names = o.names }) r
 marker_first o t None is = refl
 marker_first o t (Some r) is = marker_by o.raw r.0.raw o.marker r.0.marker t o.names r.0.names r.1 is
 
-marker_again : (a b : Bool) (m k : Option (List ℕ)) (t : List ℕ) (ns ms ws : List (List ℕ)) → is_some m ≡ true
-    → joined (record { raw = a; marker = m; names = ns }) (with_marker t (record { raw = b; marker = k; names = ms }, ws)) ≡ None
-marker_again a b None k t ns ms ws is = absurd (cc)
-marker_again a b (Some s) (Some u) t ns ms ws is = refl
-marker_again true true (Some s) None t ns ms ws is = refl
-marker_again true false (Some s) None t ns ms ws is = refl
-marker_again false b (Some s) None t ns ms ws is = refl
-
--- a marker that stands again is refused
-pub marker_twice : (o : Options) (t : List ℕ) (r : Option Read) → is_some o.marker ≡ true → joined o (option_and_then (with_marker t) r) ≡ None
-marker_twice o t None is = refl
-marker_twice o t (Some r) is = marker_again o.raw r.0.raw o.marker r.0.marker t o.names r.0.names r.1 is
-
 -- a name goes over to the options before
-pub name_first : (o : Options) (n : List ℕ) (r : Option Read)
+name_first : (o : Options) (n : List ℕ) (r : Option Read)
     → joined o (option_map (with_name n) r) ≡ joined (record { raw = o.raw; marker = o.marker; names = o.names ++ n ∷ [] }) r
 name_first o n None = refl
 name_first o n (Some r) =
@@ -75,25 +38,8 @@ end_by false (Some s) ns ws = ap (λ (l : List (List ℕ)). Some (record { raw =
 end_by false None ns ws = ap (λ (l : List (List ℕ)). Some (record { raw = false; marker = None; names = l }, ws)) (append-nil ns)
 
 -- where no options follow, those before are all
-pub at_end : (o : Options) (ws : List (List ℕ)) → joined o (Some (no_options, ws)) ≡ Some (o, ws)
+at_end : (o : Options) (ws : List (List ℕ)) → joined o (Some (no_options, ws)) ≡ Some (o, ws)
 at_end o ws = end_by o.raw o.marker o.names ws
-
--- by the first word
-pub at_raw : (w : List ℕ) (ws : List (List ℕ)) → bytes_eq w (codes "--") ≡ false → begins_with_dash w ≡ true → bytes_eq w (codes "-raw") ≡ true
-    → options_from option (w ∷ ws) ≡ option_and_then with_raw (options_from option ws)
-at_raw w ws goes_on dash raw = rw (goes_on, dash, raw) refl
-
-pub at_marker : (w : List ℕ) (ws : List (List ℕ)) → bytes_eq w (codes "--") ≡ false → begins_with_dash w ≡ true → bytes_eq w (codes "-raw") ≡ false → bytes_eq w (codes "-nullMarker") ≡ true
-    → options_from option (w ∷ ws) ≡ options_from text ws
-at_marker w ws goes_on dash raw marker = rw (goes_on, dash, raw, marker) refl
-
-pub at_name : (w : List ℕ) (ws : List (List ℕ)) → bytes_eq w (codes "--") ≡ false → begins_with_dash w ≡ true → bytes_eq w (codes "-raw") ≡ false → bytes_eq w (codes "-nullMarker") ≡ false
-    → bytes_eq w (codes "-name") ≡ true → options_from option (w ∷ ws) ≡ options_from name ws
-at_name w ws goes_on dash raw marker named = rw (goes_on, dash, raw, marker, named) refl
-
-pub at_none : (w : List ℕ) (ws : List (List ℕ)) → bytes_eq w (codes "--") ≡ false → begins_with_dash w ≡ true → bytes_eq w (codes "-raw") ≡ false → bytes_eq w (codes "-nullMarker") ≡ false
-    → bytes_eq w (codes "-name") ≡ false → options_from option (w ∷ ws) ≡ None
-at_none w ws goes_on dash raw marker named = rw (goes_on, dash, raw, marker, named) refl
 
 -- the TEXT of `-nullMarker`
 pub marker_step : (o : Options) (w t : List ℕ) (ws rest : List (List ℕ)) → ws ≡ w ∷ rest → is_some o.marker ≡ false → t ≡ w

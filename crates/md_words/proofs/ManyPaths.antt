@@ -1,5 +1,5 @@
 -- The paths that were read before, and those of the next words.
-use Rattle.std.proofs.Common.{◌≡◌, ℕ, Bool, true, false, List, [], ◌∷◌, ◌++◌, ◌||◌, Option, Some, None, if◌then◌else◌, refl, sym, ap, append_assoc, append-nil, ◌∙◌, map}
+use Rattle.std.proofs.Common.{◌≡◌, ℕ, Bool, true, false, List, [], ◌∷◌, ◌++◌, Some, None, if◌then◌else◌, refl, sym, ap, append_assoc, append-nil, ◌∙◌, map}
 use Rattle.std.specs.List.{list_any}
 use Rattle.md_value.specs.Path.{is_bad, normal}
 use Rattle.md_words.specs.Words.{path_of, paths_of}

@@ -18,7 +18,7 @@ alone tool (word ∷ words) = None
 abbrev pub shown : Options → List (List ℕ) → Tool
 shown options files = tool.Show options.raw (unwrap_or options.marker (codes "(null)")) options.names files
 
--- `{ lsword } [ "--" ] FILE { FILE }`
+-- `{ "-raw" | "-name" NAME | "-nullMarker" TEXT } [ "--" ] FILE { FILE }`
 unfoldable pub show_of : List (List ℕ) → Option Tool
 show_of words = option_and_then (λ read. option_map (shown read.0) (files_below_root read.1)) (options_of words)
 
@@ -32,7 +32,7 @@ import_of (word ∷ words) =
     else (if begins_with_dash word then None
     else option_map tool.Import (files_of (word ∷ words)))))
 
--- `"mdls" ..`, `"mdimport" ..` or `"live"`
+-- `"mdls"`, `"mdimport"` or `"live"`, and what follows
 unfoldable pub tool_of : List (List ℕ) → Option Tool
 tool_of [] = None
 tool_of (word ∷ words) =

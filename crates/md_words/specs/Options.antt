@@ -1,5 +1,5 @@
 -- The options of `mdls`.
-use Rattle.std.specs.Prelude.{◌≡◌, ℕ, ◌≤◌, ◌||◌, ◌&&◌, ◌++◌, Bool, true, false, not, if◌then◌else◌, List, [], ◌∷◌, codes, bytes_eq, Option, Some, None, is_some}
+use Rattle.std.specs.Prelude.{ℕ, ◌||◌, ◌&&◌, ◌++◌, true, false, not, if◌then◌else◌, List, [], ◌∷◌, codes, bytes_eq, Option, Some, None, is_some}
 use Rattle.std.specs.Option.{option_map, option_and_then, option_or}
 use Rattle.md_value.specs.Name.{is_name}
 use Rattle.md_words.specs.declared.options.Options.{Options}
@@ -30,13 +30,10 @@ pub data Next : Type 0 where
   text : Next
   name : Next
 
--- `{ "-raw" | "-name" NAME | "-nullMarker" TEXT } [ "--" ]`, from the word that comes next: the options end at `--` or at the first word that does not begin with `-`
+-- `{ "-raw" | "-name" NAME | "-nullMarker" TEXT } [ "--" ]`, from the word that comes next
+-- the options end at `--` or at the first word that does not begin with `-`, and a word that begins so and is no option is refused
 abbrev pub options_from : Next → List (List ℕ) → Option Read
 options_from option [] = Some (no_options, [])
-options_from text [] = None
-options_from name [] = None
-options_from text (word ∷ words) = option_and_then (with_marker word) (options_from option words)
-options_from name (word ∷ words) = if is_name word then option_map (with_name word) (options_from option words) else None
 options_from option (word ∷ words) =
     if bytes_eq word (codes "--") then Some (no_options, words)
     else (if not (begins_with_dash word) then Some (no_options, word ∷ words)
@@ -44,7 +41,12 @@ options_from option (word ∷ words) =
     else (if bytes_eq word (codes "-nullMarker") then options_from text words
     else (if bytes_eq word (codes "-name") then options_from name words
     else None))))
+options_from text [] = None
+options_from text (word ∷ words) = option_and_then (with_marker word) (options_from option words)
+options_from name [] = None
+options_from name (word ∷ words) = if is_name word then option_map (with_name word) (options_from option words) else None
 
+-- what the options at the front of the words say, and the words that follow; None where they are not in the grammar
 unfoldable pub options_of : List (List ℕ) → Option Read
 options_of words = options_from option words
 

@@ -1,5 +1,5 @@
 // The options of `mdls`.
-ghost use Rattle.std.specs.Prelude.{◌≡◌, ◌≤◌, ◌∷◌, ℕ, List, false, true, length, IfOk, MatchOption, Some, None, codes, bytes_eq, if◌then◌else◌};
+ghost use Rattle.std.specs.Prelude.{◌≡◌, ◌≤◌, ◌∷◌, ℕ, List, false, true, length, IfOk, IfSome, Some, None, codes, bytes_eq, if◌then◌else◌};
 ghost use Rattle.std.specs.Option.{option_map, option_and_then};
 ghost use Rattle.md_value.specs.Name.{is_name};
 ghost use Rattle.md_words.specs.Words.{texts, begins_with_dash};
@@ -41,9 +41,8 @@ impl Options {
 
     // Takes `-raw` in, unless it stands already, and answers the words after it.
     fn take_raw<'a>(&mut self, words: &'a [String]) -> Option<&'a [String]>
-        ensures { MatchOption result
-            (joined self.old (option_and_then with_raw (options_from option (texts words.now))) ≡ None)
-            (λ rest. (joined self.old (option_and_then with_raw (options_from option (texts words.now))) ≡ joined self.new (options_from option (texts rest.now))) × (length rest.now ≤ length words.now)) }
+        ensures value { joined self.old (option_and_then with_raw (options_from option (texts words.now))) ≡ option_and_then (λ rest. joined self.new (options_from option (texts rest.now))) result }
+        ensures shorter { IfSome result (λ rest. length rest.now ≤ length words.now) }
     {
         if self.raw {
             return None;
@@ -58,9 +57,8 @@ impl Options {
         alloc: Global,
         words: &'a [String],
     ) -> Result<Option<&'a [String]>, AllocError>
-        ensures { IfOk result (λ r. MatchOption r
-            (joined self.old (options_from text (texts words.now)) ≡ None)
-            (λ rest. (joined self.old (options_from text (texts words.now)) ≡ joined self.new (options_from option (texts rest.now))) × (length rest.now ≤ length words.now))) }
+        ensures value { IfOk result (λ r. joined self.old (options_from text (texts words.now)) ≡ option_and_then (λ rest. joined self.new (options_from option (texts rest.now))) r) }
+        ensures shorter { IfOk result (λ r. IfSome r (λ rest. length rest.now ≤ length words.now)) }
     {
         let Some((word, rest)) = first_word(words) else {
             return Ok(None);
@@ -78,9 +76,8 @@ impl Options {
         alloc: Global,
         words: &'a [String],
     ) -> Result<Option<&'a [String]>, AllocError>
-        ensures { IfOk result (λ r. MatchOption r
-            (joined self.old (options_from name (texts words.now)) ≡ None)
-            (λ rest. (joined self.old (options_from name (texts words.now)) ≡ joined self.new (options_from option (texts rest.now))) × (length rest.now ≤ length words.now))) }
+        ensures value { IfOk result (λ r. joined self.old (options_from name (texts words.now)) ≡ option_and_then (λ rest. joined self.new (options_from option (texts rest.now))) r) }
+        ensures shorter { IfOk result (λ r. IfSome r (λ rest. length rest.now ≤ length words.now)) }
     {
         let Some((word, rest)) = first_word(words) else {
             return Ok(None);
@@ -101,9 +98,8 @@ impl Options {
     ) -> Result<Option<&'a [String]>, AllocError>
         requires not_end { bytes_eq word.now (codes "--") ≡ false }
         requires dash { begins_with_dash word.now ≡ true }
-        ensures { IfOk result (λ r. MatchOption r
-            (joined self.old (options_from option (word.now ∷ texts words.now)) ≡ None)
-            (λ rest. (joined self.old (options_from option (word.now ∷ texts words.now)) ≡ joined self.new (options_from option (texts rest.now))) × (length rest.now ≤ length words.now))) }
+        ensures value { IfOk result (λ r. joined self.old (options_from option (word.now ∷ texts words.now)) ≡ option_and_then (λ rest. joined self.new (options_from option (texts rest.now))) r) }
+        ensures shorter { IfOk result (λ r. IfSome r (λ rest. length rest.now ≤ length words.now)) }
     {
         if word == "-raw" {
             return Ok(self.take_raw(words));
