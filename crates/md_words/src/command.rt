@@ -1,0 +1,85 @@
+// What the words of the program ask for.
+ghost use Rattle.std.specs.Prelude.{◌≡◌};
+ghost use Rattle.md_words.specs.declared.command.WordsError.TheVariants.{Memory};
+
+use crate::Word;
+use md_value::{Items, Name, Path};
+use std::alloc::AllocError;
+
+/// What the words ask for.
+#[derive(Drop)]
+pub struct Command {
+    /// The minutes by which local time is ahead of UTC, from -1439 to 1439.
+    pub offset: i32,
+    pub what: Tool,
+}
+
+/// The tool that is asked for, and what it is told.
+#[derive(Drop)]
+pub enum Tool {
+    /// `mdfind`: the paths below `scope` whose name and content are searched for; no reader gives it yet.
+    Find {
+        /// A zero byte after each path, in place of a line feed.
+        zero: bool,
+        /// The number of paths, in place of the paths.
+        count: bool,
+        scope: Path,
+        name: Option<Word>,
+        mode: Mode,
+        text: Option<Word>,
+    },
+    /// `mdls`: the attributes of files.
+    Show {
+        /// The values alone.
+        raw: bool,
+        /// What stands for an attribute that is absent.
+        marker: Word,
+        /// The attributes that are asked for, in the order of the words, or none where all are.
+        names: Items<Name>,
+        files: Items<Path>,
+    },
+    /// `mdimport`: the import of files and of folders.
+    Import {
+        files: Items<Path>,
+    },
+    /// `mdimport -L`: the importers.
+    Importers,
+    /// `mdimport -A`: the attributes of the schema.
+    Attributes,
+    /// `live`: the run of a script, by this many workers if any are asked for; no reader gives workers yet.
+    Live {
+        workers: Option<u32>,
+    },
+    /// `gen`: `count` files and a script that are made from `start`; no reader gives it yet.
+    Gen {
+        start: u64,
+        count: u32,
+    },
+}
+
+/// How a search text is read.
+#[derive(Clone, Copy, Debug, PartialEq, Eq)]
+pub enum Mode {
+    /// As an expression where it looks like one, else as a plain text.
+    Guess,
+    /// As an expression.
+    Literal,
+    /// As a plain text.
+    Plain,
+}
+
+/// Why words are refused.
+#[derive(Clone, Copy, Debug, PartialEq, Eq)]
+pub enum WordsError {
+    /// They are not in the grammar.
+    Usage,
+    Memory,
+}
+
+impl From<AllocError> for WordsError {
+    ghost from_gives = { λ _ e. e ≡ Memory };
+
+    fn from(_: AllocError) -> WordsError {
+        WordsError::Memory
+    }
+}

@@ -1,0 +1,75 @@
+// The reader of the program's words.
+ghost use Rattle.std.specs.Prelude.{◌≡◌, ◌<◌, IfOk, IfSome, IsErrOf, Some, None, unsigned_abs};
+ghost use Rattle.md_words.specs.Words.{texts};
+ghost use Rattle.md_words.specs.Grammar.{at_offset, offset_then, command_of};
+
+use crate::offset::offset_of;
+use crate::tools::tool_of;
+use crate::word::first_word;
+use crate::{Command, WordsError};
+use std::alloc::{AllocError, Global};
+
+#[tactic(auto, unfolding(crate::specs::Grammar::at_offset))]
+fn at_offset(alloc: Global, offset: i32, words: &[String]) -> Result<Option<Command>, AllocError>
+    requires { unsigned_abs offset < 1440 }
+    ensures offset { IfOk result (λ command. IfSome command (λ c. unsigned_abs c.offset < 1440)) }
+    ensures value { IfOk result (λ command. command ≡ at_offset offset (texts words.now)) }
+{
+    match tool_of(alloc, words)? {
+        Some(what) => Ok(Some(Command { offset, what })),
+        None => Ok(None),
+    }
+}
+
+#[tactic(auto, unfolding(crate::specs::Grammar::offset_then))]
+fn offset_then(alloc: Global, words: &[String]) -> Result<Option<Command>, AllocError>
+    ensures offset { IfOk result (λ command. IfSome command (λ c. unsigned_abs c.offset < 1440)) }
+    ensures value { IfOk result (λ command. command ≡ offset_then (texts words.now)) }
+{
+    let Some((word, rest)) = first_word(words) else {
+        return Ok(None);
+    };
+    match offset_of(word) {
+        Some(offset) => at_offset(alloc, offset, rest),
+        None => Ok(None),
+    }
+}
+
+#[tactic(auto, unfolding(crate::specs::Grammar::command_of))]
+fn command_of(alloc: Global, words: &[String]) -> Result<Option<Command>, AllocError>
+    ensures offset { IfOk result (λ command. IfSome command (λ c. unsigned_abs c.offset < 1440)) }
+    ensures value { IfOk result (λ command. command ≡ command_of (texts words.now)) }
+{
+    let Some((word, rest)) = first_word(words) else {
+        return Ok(None);
+    };
+    if word == "-offset" {
+        return offset_then(alloc, rest);
+    }
+    at_offset(alloc, 0, words)
+}
+
+/// Reads the words of the program, without the program's own name:
+///
+/// ```text
+/// words   = [ "-offset" OFF ] command
+/// OFF     = "Z" | ("+" | "-") HH [":"] MM
+/// command = "mdls" { lsword } [ "--" ] FILE { FILE }
+///         | "mdimport" ( "-L" | "-A" | [ "--" ] FILE { FILE } )
+///         | "live"
+/// lsword  = "-raw" | "-name" NAME | "-nullMarker" TEXT
+/// ```
+///
+/// HH is 00 to 23 and MM 00 to 59; without `-offset` the offset is 0. `-raw` and `-nullMarker` stand at most once. The
+/// options end at `--` or at the first word that does not begin with `-`. NAME is read by `Name::read` and FILE by
+/// `Path::read`; a FILE of `mdls` is not the root. `Usage` comes exactly where the words are not in this grammar.
+pub fn read_words(alloc: Global, words: &[String]) -> Result<Command, WordsError>
+    ensures ok { IfOk result (λ command. command_of (texts words.now) ≡ Some command) }
+    ensures offset { IfOk result (λ command. unsigned_abs command.offset < 1440) }
+    ensures usage { IsErrOf result WordsError.Usage → command_of (texts words.now) ≡ None }
+{
+    match command_of(alloc, words)? {
+        Some(command) => Ok(command),
+        None => Err(WordsError::Usage),
+    }
+}
