@@ -1,0 +1,67 @@
+-- The files that are made.
+use Rattle.std.specs.Prelude.{ℕ, zero, suc, ◌+◌, List, [], ◌∷◌, ◌++◌, length, pos, codes, slice_index_or}
+use Rattle.std.specs.Fmt.{decimal}
+use Rattle.md_source.specs.Tree.{File}
+use Rattle.md_gen.specs.declared.kind.Kind.{Kind}
+use Rattle.md_gen.specs.declared.kind.Kind.TheVariants.{Text, Json, Csv}
+use Rattle.md_gen.specs.Draws.{next, drawn}
+
+-- the words that contents are made of
+abbrev pub words : List (List ℕ)
+words = codes "red" ∷ codes "blue" ∷ codes "tax" ∷ codes "plan" ∷ codes "note" ∷ codes "draft" ∷ codes "final" ∷ codes "budget" ∷ []
+
+-- the word of a number
+unfoldable pub word : ℕ → List ℕ
+word k = slice_index_or words k []
+
+-- the kind of a number
+abbrev pub kind : ℕ → Kind
+kind zero = Text
+kind (suc zero) = Json
+kind _ = Csv
+
+abbrev pub ending : Kind → List ℕ
+ending Text = codes ".txt"
+ending Json = codes ".json"
+ending Csv = codes ".csv"
+
+-- a file's content: its kind, two words and a rating
+abbrev pub content : Kind → List ℕ → List ℕ → ℕ → List ℕ
+content Text a b rating = a ++ codes " " ++ b
+content Json a b rating = codes "{\"kMDItemTitle\":\"" ++ a ++ codes "\",\"kMDItemStarRating\":" ++ decimal rating ++ codes "}"
+content Csv a b rating = codes "kMDItemKeywords,notes\n" ++ a ++ codes "," ++ b ++ codes "\n"
+
+-- the path of the i-th file
+unfoldable pub path : ℕ → Kind → List ℕ
+path i kind = codes "g/f" ++ decimal i ++ ending kind
+
+-- a file that was changed at the moment 0
+abbrev pub file : List ℕ → List ℕ → File
+file path content = (record { path = path; size = length content; changed = pos 0 }, content)
+
+-- the i-th file: its kind, its words and its rating are drawn in this order
+unfoldable pub drawn_file : ℕ → ℕ → File
+drawn_file state i =
+    let kind = kind (drawn state 3) in
+    let a = word (drawn (next state) 8) in
+    let b = word (drawn (next (next state)) 8) in
+    let rating = drawn (next (next (next state))) 6 in
+    file (path i kind) (content kind a b rating)
+
+-- the state that the draws of a file leave
+abbrev pub after_file : ℕ → ℕ
+after_file state = next (next (next (next state)))
+
+-- so many files, from the i-th on
+abbrev pub drawn_files : ℕ → ℕ → ℕ → List File
+drawn_files state i zero = []
+drawn_files state i (suc count) = drawn_file state i ∷ drawn_files (after_file state) (i + 1) count
+
+-- the state that the draws of so many files leave
+abbrev pub after_files : ℕ → ℕ → ℕ
+after_files state zero = state
+after_files state (suc count) = after_files (after_file state) count
+
+-- the n files that are made from a start
+unfoldable pub files : ℕ → ℕ → List File
+files start n = drawn_files start 0 n
