@@ -25,11 +25,19 @@ ending Text = codes ".txt"
 ending Json = codes ".json"
 ending Csv = codes ".csv"
 
+-- an object of a title and a rating
+abbrev pub json : List ℕ → ℕ → List ℕ
+json title rating = codes "{\"kMDItemTitle\":\"" ++ title ++ codes "\",\"kMDItemStarRating\":" ++ decimal rating ++ codes "}"
+
+-- a record of a keyword and a note, below the names of both
+abbrev pub csv : List ℕ → List ℕ → List ℕ
+csv keyword note = codes "kMDItemKeywords,notes\n" ++ keyword ++ codes "," ++ note ++ codes "\n"
+
 -- a file's content: its kind, two words and a rating
 abbrev pub content : Kind → List ℕ → List ℕ → ℕ → List ℕ
 content Text a b rating = a ++ codes " " ++ b
-content Json a b rating = codes "{\"kMDItemTitle\":\"" ++ a ++ codes "\",\"kMDItemStarRating\":" ++ decimal rating ++ codes "}"
-content Csv a b rating = codes "kMDItemKeywords,notes\n" ++ a ++ codes "," ++ b ++ codes "\n"
+content Json a b rating = json a rating
+content Csv a b rating = csv a b
 
 -- the path of the i-th file
 unfoldable pub path : ℕ → Kind → List ℕ
@@ -39,18 +47,27 @@ path i kind = codes "g/f" ++ decimal i ++ ending kind
 abbrev pub file : List ℕ → List ℕ → File
 file path content = (record { path = path; size = length content; changed = pos 0 }, content)
 
--- the i-th file: its kind, its words and its rating are drawn in this order
+-- the content of a file of a kind: its two words and its rating are drawn in this order
+unfoldable pub drawn_content : ℕ → Kind → List ℕ
+drawn_content state kind =
+    let a = word (drawn state 8) in
+    let b = word (drawn (next state) 8) in
+    let rating = drawn (next (next state)) 6 in
+    content kind a b rating
+
+-- the state that the draws of a content leave
+abbrev pub after_content : ℕ → ℕ
+after_content state = next (next (next state))
+
+-- the i-th file: its kind is drawn, then its content
 unfoldable pub drawn_file : ℕ → ℕ → File
 drawn_file state i =
     let kind = kind (drawn state 3) in
-    let a = word (drawn (next state) 8) in
-    let b = word (drawn (next (next state)) 8) in
-    let rating = drawn (next (next (next state))) 6 in
-    file (path i kind) (content kind a b rating)
+    file (path i kind) (drawn_content (next state) kind)
 
 -- the state that the draws of a file leave
 abbrev pub after_file : ℕ → ℕ
-after_file state = next (next (next (next state)))
+after_file state = after_content (next state)
 
 -- so many files, from the i-th on
 abbrev pub drawn_files : ℕ → ℕ → ℕ → List File

@@ -1,6 +1,6 @@
 // The files that are made.
-ghost use Rattle.std.specs.Prelude.{◌≡◌, ◌<◌, ◌≤◌, ◌++◌, IfOk, string_bytes};
-ghost use Rattle.md_gen.specs.Files.{after_file, after_files, content, drawn_file, drawn_files, path};
+ghost use Rattle.std.specs.Prelude.{◌≡◌, ◌<◌, ◌≤◌, ◌++◌, IfOk, OnOk, string_bytes};
+ghost use Rattle.md_gen.specs.Files.{after_content, after_file, after_files, content, csv, drawn_content, drawn_file, drawn_files, json, path};
 
 use crate::draws::Draws;
 use crate::kind::Kind;
@@ -9,35 +9,74 @@ use md_source::Entry;
 use md_value::{Items, Path, PathError};
 use std::alloc::{AllocError, Global};
 
-/// How many kinds, words and ratings there are.
+/// How many kinds of files there are.
 const KINDS: usize = 3;
+
+/// How many words there are.
 const WORDS: usize = 8;
+
+/// How many ratings there are, from 0 on.
 const RATINGS: usize = 6;
 
-fn content(
-    alloc: Global,
+fn push_json(text: &mut String, title: &str, rating: usize) -> Result<(), AllocError>
+    ensures { OnOk result (string_bytes text.new ≡ string_bytes text.old ++ json title.now rating) }
+{
+    write!(text, "{{\"kMDItemTitle\":\"{title}\",\"kMDItemStarRating\":{rating}}}")
+}
+
+fn push_csv(text: &mut String, keyword: &str, note: &str) -> Result<(), AllocError>
+    ensures { OnOk result (string_bytes text.new ≡ string_bytes text.old ++ csv keyword.now note.now) }
+{
+    writeln!(text, "kMDItemKeywords,notes")?;
+    writeln!(text, "{keyword},{note}")
+}
+
+// Appends a file's content.
+fn push_content(
+    text: &mut String,
     kind: Kind,
     first: &str,
     second: &str,
     rating: usize,
-) -> Result<String, AllocError>
-    ensures { IfOk result (λ text. string_bytes text ≡ content kind first.now second.now rating) }
+) -> Result<(), AllocError>
+    ensures { OnOk result (string_bytes text.new ≡ string_bytes text.old ++ content kind first.now second.now rating) }
 {
     match kind {
-        Kind::Text => format!(in alloc; "{first} {second}"),
-        Kind::Json => {
-            format!(in alloc; "{{\"kMDItemTitle\":\"{first}\",\"kMDItemStarRating\":{rating}}}")
-        }
-        Kind::Csv => format!(in alloc; "kMDItemKeywords,notes\n{first},{second}\n"),
+        Kind::Text => write!(text, "{first} {second}"),
+        Kind::Json => push_json(text, first, rating),
+        Kind::Csv => push_csv(text, first, second),
     }
+}
+
+// The content of a file of a kind.
+#[tactic(auto, unfolding(crate::specs::Files::drawn_content))]
+fn content(alloc: Global, draws: &mut Draws, kind: Kind) -> Result<String, AllocError>
+    ensures content { IfOk result (λ text. string_bytes text ≡ drawn_content draws.old.state kind) }
+    ensures draws { draws.new.state ≡ after_content draws.old.state }
+{
+    let first = word(draws.draw(WORDS));
+    let second = word(draws.draw(WORDS));
+    let rating = draws.draw(RATINGS);
+    let mut text = String::new(alloc);
+    push_content(&mut text, kind, first, second, rating)?;
+    Ok(text)
+}
+
+// Appends the path of a file.
+#[tactic(auto, unfolding(crate::specs::Files::path))]
+fn push_path(text: &mut String, i: u32, kind: Kind) -> Result<(), AllocError>
+    ensures { OnOk result (string_bytes text.new ≡ string_bytes text.old ++ path i kind) }
+{
+    let ending = kind.ending();
+    write!(text, "g/f{i}{ending}")
 }
 
 fn path_of(alloc: Global, i: u32, kind: Kind) -> Result<Path, AllocError>
     requires { i < 10000 }
     ensures { IfOk result (λ made. made ≡ path i kind) }
 {
-    let ending = kind.ending();
-    let text = format!(in alloc; "g/f{i}{ending}")?;
+    let mut text = String::new(alloc);
+    push_path(&mut text, i, kind)?;
     match Path::read(alloc, text.as_str()) {
         Ok(path) => Ok(path),
         Err(PathError::Bad) => unreachable!(),
@@ -45,16 +84,15 @@ fn path_of(alloc: Global, i: u32, kind: Kind) -> Result<Path, AllocError>
     }
 }
 
+// A file and what it holds.
+#[tactic(auto, unfolding(crate::specs::Files::drawn_file))]
 fn file(alloc: Global, draws: &mut Draws, i: u32) -> Result<(Entry, Items<u8>), AllocError>
     requires { i < 10000 }
     ensures file { IfOk result (λ made. made ≡ drawn_file draws.old.state i) }
     ensures draws { draws.new.state ≡ after_file draws.old.state }
 {
     let kind = Kind::of(draws.draw(KINDS));
-    let first = word(draws.draw(WORDS));
-    let second = word(draws.draw(WORDS));
-    let rating = draws.draw(RATINGS);
-    let content = content(alloc, kind, first, second, rating)?.into_bytes();
+    let content = content(alloc, draws, kind)?.into_bytes();
     let path = path_of(alloc, i, kind)?;
     let entry = Entry {
         path,

@@ -1,5 +1,5 @@
 // The script over the files that are made.
-ghost use Rattle.std.specs.Prelude.{◌≡◌, ◌<◌, ◌≤◌, ◌+◌, ◌++◌, IfOk, OnOk, length, string_bytes};
+ghost use Rattle.std.specs.Prelude.{◌≡◌, ◌<◌, ◌≤◌, ◌+◌, ◌-◌, ◌++◌, IfOk, OnOk, length, string_bytes};
 ghost use Rattle.md_gen.specs.Scripts.{after_step, chosen, imports, polls, queries, script_over, step, steps};
 ghost use Rattle.md_gen.specs.Draws.{next, drawn};
 
