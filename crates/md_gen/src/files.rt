@@ -27,8 +27,7 @@ fn push_json(text: &mut String, title: &str, rating: usize) -> Result<(), AllocE
 fn push_csv(text: &mut String, keyword: &str, note: &str) -> Result<(), AllocError>
     ensures { OnOk result (string_bytes text.new ≡ string_bytes text.old ++ csv keyword.now note.now) }
 {
-    writeln!(text, "kMDItemKeywords,notes")?;
-    writeln!(text, "{keyword},{note}")
+    write!(text, "kMDItemKeywords,notes\n{keyword},{note}\n")
 }
 
 // Appends a file's content.

@@ -1,6 +1,6 @@
-use Rattle.std.proofs.Common.{◌≡◌, ◌∙◌, ap, length, arith}
+use Rattle.std.proofs.Common.{◌≡◌, ◌∙◌, ap, length}
 use Rattle.md_source.specs.Tree.{IsListing, entries_of}
-use Rattle.md_gen.specs.Files.{files}
+use Rattle.md_gen.specs.Files.{after_files, files}
 use Rattle.md_gen.specs.Scripts.{script, script_over}
 use Rattle.md_gen.proofs.Listed.{files_listed}
 use Rattle.md_gen.proofs.More.{length-drawn_files}
@@ -8,8 +8,14 @@ use Rattle.md_gen.proofs.made.make.Goals as goal
 
 pub returns-clause-script : goal.returns-clause-script
 unfolding script files
-returns-clause-script c = ?
+returns-clause-script c =
+    let made : c.as_slice.result.now ≡ files c.args.start c.args.n = c.as_slice.ensures.value ∙ c.in_ok-files.ensures.0 in
+    let count : length c.as_slice.result.now ≡ c.args.n = ap length made ∙ length-drawn_files c.args.start 0 c.args.n in
+    c.in_ok-script.ensures
+    ∙ ap (λ n. script_over c.as_slice.result.now c.files.new.draws.state n) count
+    ∙ ap (λ state. script_over c.as_slice.result.now state c.args.n) c.in_ok-files.ensures.1
+    ∙ ap (λ fs. script_over fs (after_files c.args.start c.args.n) c.args.n) made
 
 pub returns-clause-listing : goal.returns-clause-listing
 unfolding files
-returns-clause-listing c = ?
+returns-clause-listing c = rw (c.in_ok-files.ensures.0) (files_listed c.args.start c.args.n c.requires.most)
