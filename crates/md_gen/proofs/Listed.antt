@@ -1,11 +1,11 @@
 -- The files that are made are a listing of the root.
-use Rattle.std.proofs.Common.{◌≡◌, ◌≢◌, ℕ, zero, suc, ◌+◌, ◌^◌, ◌<◌, ◌≤◌, true, List, [], ◌∷◌, length, refl, arith, pos, rules}
+use Rattle.std.proofs.Common.{◌≡◌, ◌≢◌, ℕ, zero, suc, ◌+◌, ◌^◌, ◌<◌, ◌≤◌, true, List, [], ◌∷◌, length, codes, refl, arith, pos, rules}
 use Rattle.std.specs.List.{All, AllPairs}
 use Rattle.std.proofs.lemmas.List.Elements.{All-nil, All-cons}
 use Rattle.std.proofs.lemmas.List.Kept.{AllPairs-cons}
-use Rattle.md_value.specs.Values.{IsMoment}
+use Rattle.md_value.specs.Values.{IsMoment, is_same}
 use Rattle.md_value.specs.Path.{is_inside}
-use Rattle.md_source.specs.Tree.{IsListing, entries_of}
+use Rattle.md_source.specs.Tree.{IsContent, IsListing, entries_of}
 use Rattle.md_source.specs.declared.tree.Entry.{Entry}
 use Rattle.md_gen.specs.declared.kind.Kind.{Kind}
 use Rattle.md_gen.specs.Draws.{next, drawn}
@@ -31,11 +31,11 @@ drawn_distinct state i zero within = λ j k d less below. absurd (omega arith)
 drawn_distinct state i (suc n) within =
     AllPairs-cons Differ (drawn_file state i).0 (entries_of (drawn_files (after_file state) (i + 1) n))
     (drawn_All (Differ (drawn_file state i).0) (i + 1)
-     (λ j other content from below same. absurd (omega (arith, path_injective i j (kind (drawn state 3)) other (omega arith) (omega arith) same)))
-     (after_file state) (i + 1) n (omega arith) (omega arith))
+    (λ j other content from below same. absurd (omega (arith, path_injective i j (kind (drawn state 3)) other (omega arith) (omega arith) same)))
+    (after_file state) (i + 1) n (omega arith) (omega arith))
     (drawn_distinct (after_file state) (i + 1) n (omega arith))
 
-pub files_listed : (start n : ℕ) → n ≤ 10000 → IsListing [] (entries_of (files start n))
+files_listed : (start n : ℕ) → n ≤ 10000 → IsListing [] (entries_of (files start n))
 unfolding files is_inside
 files_listed start n most = record {
   inside = λ k d below. refl;
@@ -43,3 +43,7 @@ files_listed start n most = record {
   moments = drawn_All (λ entry. IsMoment entry.changed) 0 (λ i kind content from below. search rules) start 0 n (omega arith) (omega arith);
   distinct = drawn_distinct start 0 n (omega arith);
 }
+
+pub files_content : (start n : ℕ) → n ≤ 10000 → IsContent (record { folders = [] ∷ codes "g" ∷ []; files = files start n })
+unfolding is_same
+files_content start n most = record { root = refl; files = files_listed start n most }

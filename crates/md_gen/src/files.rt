@@ -21,7 +21,10 @@ const RATINGS: usize = 6;
 fn push_json(text: &mut String, title: &str, rating: usize) -> Result<(), AllocError>
     ensures { OnOk result (string_bytes text.new ≡ string_bytes text.old ++ json title.now rating) }
 {
-    write!(text, "{{\"kMDItemTitle\":\"{title}\",\"kMDItemStarRating\":{rating}}}")
+    write!(
+        text,
+        "{{\"kMDItemTitle\":\"{title}\",\"kMDItemStarRating\":{rating}}}"
+    )
 }
 
 fn push_csv(text: &mut String, keyword: &str, note: &str) -> Result<(), AllocError>

@@ -1,6 +1,6 @@
 // Files and a script, made from a number.
-ghost use Rattle.std.specs.Prelude.{◌≡◌, ◌≤◌, [], IfOk, string_bytes};
-ghost use Rattle.md_source.specs.Tree.{IsListing, entries_of};
+ghost use Rattle.std.specs.Prelude.{◌≡◌, ◌≤◌, ◌∷◌, [], IfOk, codes, string_bytes};
+ghost use Rattle.md_source.specs.Tree.{IsContent};
 ghost use Rattle.md_gen.specs.Files.{files};
 ghost use Rattle.md_gen.specs.Scripts.{script};
 
@@ -28,10 +28,10 @@ pub struct Made {
 #[tactic(auto, unfolding(crate::specs::Files::files, crate::specs::Scripts::script))]
 pub fn make(alloc: Global, start: u64, n: u32) -> Result<Made, AllocError>
     requires some { 1 ≤ n }
-    requires most { n ≤ 10000 }
+    requires most { n ≤ MOST_FILES }
     ensures files { IfOk result (λ made. made.files.items ≡ files start n) }
     ensures script { IfOk result (λ made. string_bytes made.script ≡ script start n) }
-    ensures listing { IfOk result (λ made. IsListing [] (entries_of made.files.items)) }
+    ensures content { IfOk result (λ made. IsContent (record { folders = [] ∷ codes "g" ∷ []; files = made.files.items })) }
 {
     let mut draws = Draws { state: start };
     let files = files(alloc, &mut draws, n)?;

@@ -2,7 +2,7 @@ use Rattle.std.proofs.Common.{◌≡◌, ◌∙◌, ap, length}
 use Rattle.md_source.specs.Tree.{IsListing, entries_of}
 use Rattle.md_gen.specs.Files.{after_files, files}
 use Rattle.md_gen.specs.Scripts.{script, script_over}
-use Rattle.md_gen.proofs.Listed.{files_listed}
+use Rattle.md_gen.proofs.Listed.{files_content}
 use Rattle.md_gen.proofs.More.{length-drawn_files}
 use Rattle.md_gen.proofs.made.make.Goals as goal
 
@@ -16,6 +16,6 @@ returns-clause-script c =
     ∙ ap (λ state. script_over c.as_slice.result.now state c.args.n) c.in_ok-files.ensures.1
     ∙ ap (λ fs. script_over fs (after_files c.args.start c.args.n) c.args.n) made
 
-pub returns-clause-listing : goal.returns-clause-listing
+pub returns-clause-content : goal.returns-clause-content
 unfolding files
-returns-clause-listing c = rw (c.in_ok-files.ensures.0) (files_listed c.args.start c.args.n c.requires.most)
+returns-clause-content c = rw (c.in_ok-files.ensures.0) (files_content c.args.start c.args.n c.requires.most)
