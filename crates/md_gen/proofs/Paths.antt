@@ -1,9 +1,8 @@
 -- The paths of the files that are made are paths, and distinct.
-use Rattle.std.proofs.Common.{◌≡◌, ◌≢◌, ℕ, suc, ◌+◌, ◌*◌, ◌^◌, ◌<◌, ◌≤◌, Bool, true, false, ◌||◌, ◌==◌, List, [], ◌∷◌, ◌++◌, length, drop, codes, refl, sym, ◌∙◌, ap, arith, nat_lt, length-append, append_assoc, filter}
+use Rattle.std.proofs.Common.{◌≡◌, ◌≢◌, ℕ, ◌^◌, ◌<◌, ◌≤◌, Bool, true, false, ◌||◌, ◌==◌, List, [], ◌∷◌, ◌++◌, length, drop, refl, sym, ◌∙◌, ap, arith, nat_lt, length-append, filter}
 use mathlib.Core.Bool.{false≢true}
 use Rattle.std.specs.Int.{IsInRange}
 use Rattle.std.specs.Fmt.{decimal}
-use Rattle.std.specs.Char.{digit_value}
 use Rattle.std.specs.Str.Parse.{AllDigits}
 use Rattle.std.specs.List.{All, join_with_byte, list_any, onto_first, slice_split}
 use Rattle.std.proofs.lemmas.Bool.Decides.{nat_tests}
@@ -12,7 +11,7 @@ use Rattle.std.proofs.lemmas.List.Elements.{All-nil, All-cons}
 use Rattle.std.proofs.lemmas.List.Folds.{list_any-append}
 use Rattle.std.proofs.lemmas.List.Splits.{slice_split_none, slice_split_at}
 use Rattle.std.proofs.lemmas.Str.Parse.{digit_from_value}
-use Rattle.md_value.specs.Path.{is_slash, is_zero, is_bad, is_kept, is_parent, components, normal, IsPath}
+use Rattle.md_value.specs.Path.{is_slash, is_zero, is_kept, is_parent, components, normal, IsPath}
 use Rattle.md_gen.specs.declared.kind.Kind.{Kind}
 use Rattle.md_gen.specs.declared.kind.Kind.TheVariants.{Text, Json, Csv}
 use Rattle.md_gen.specs.Files.{ending, path}

@@ -56,24 +56,24 @@ abbrev pub polls : List ℕ → List ℕ
 polls clients = flat_map (asked_line (codes "poll")) clients
 
 -- a removal of one of the files up to the i-th, a poll, a disable or an enable, by a number
-abbrev pub chosen : List File → ℕ → ℕ → ℕ → List ℕ
-chosen files i state zero = path_line (codes "remove") (path_at files (drawn state (i + 1)))
-chosen files i state (suc zero) = asked_line (codes "poll") (drawn state 8)
-chosen files i state (suc (suc zero)) = asked_line (codes "disable") (drawn state 8)
-chosen files i state _ = asked_line (codes "enable") (drawn state 8)
+abbrev pub action : List File → ℕ → ℕ → ℕ → List ℕ
+action files i state zero = path_line (codes "remove") (path_at files (drawn state (i + 1)))
+action files i state (suc zero) = asked_line (codes "poll") (drawn state 8)
+action files i state (suc (suc zero)) = asked_line (codes "disable") (drawn state 8)
+action files i state _ = asked_line (codes "enable") (drawn state 8)
 
 -- the import of the i-th file, and what is drawn to follow it
 unfoldable pub step : List File → ℕ → ℕ → List ℕ
-step files state i = path_line (codes "import") (path_at files i) ++ chosen files i (next state) (drawn state 4)
+step files state i = path_line (codes "import") (path_at files i) ++ action files i (next state) (drawn state 4)
 
--- the state that the draws of a step leave
-abbrev pub after_step : ℕ → ℕ
-after_step state = next (next state)
+-- the state that the draws of an action leave
+abbrev pub after_action : ℕ → ℕ
+after_action state = next (next state)
 
 -- so many steps, from the i-th file on
 abbrev pub steps : List File → ℕ → ℕ → ℕ → List ℕ
 steps files state i zero = []
-steps files state i (suc count) = step files state i ++ steps files (after_step state) (i + 1) count
+steps files state i (suc count) = step files state i ++ steps files (after_action state) (i + 1) count
 
 abbrev pub clients : List ℕ
 clients = 0 ∷ 1 ∷ 2 ∷ 3 ∷ 4 ∷ 5 ∷ 6 ∷ 7 ∷ []

@@ -1,6 +1,6 @@
 // The script over the files that are made.
 ghost use Rattle.std.specs.Prelude.{◌≡◌, ◌<◌, ◌≤◌, ◌+◌, ◌-◌, ◌++◌, IfOk, OnOk, length, string_bytes};
-ghost use Rattle.md_gen.specs.Scripts.{after_step, chosen, imports, polls, queries, script_over, step, steps};
+ghost use Rattle.md_gen.specs.Scripts.{action, after_action, imports, polls, queries, script_over, step, steps};
 ghost use Rattle.md_gen.specs.Draws.{next, drawn};
 
 use crate::draws::Draws;
@@ -15,6 +15,7 @@ const CLIENTS: [usize; 8] = [0, 1, 2, 3, 4, 5, 6, 7];
 /// How many things may follow an import.
 const ACTIONS: usize = 4;
 
+// Appends the imports of some files.
 fn push_imports(text: &mut String, files: &[(Entry, Items<u8>)]) -> Result<(), AllocError>
     ensures { OnOk result (string_bytes text.new ≡ string_bytes text.old ++ imports files.now) }
 {
@@ -24,6 +25,7 @@ fn push_imports(text: &mut String, files: &[(Entry, Items<u8>)]) -> Result<(), A
     Ok(())
 }
 
+// Appends the queries of some clients, each with the beginning of its gathering.
 fn push_queries(text: &mut String, clients: &[usize]) -> Result<(), AllocError>
     ensures { OnOk result (string_bytes text.new ≡ string_bytes text.old ++ queries clients.now) }
 {
@@ -34,6 +36,7 @@ fn push_queries(text: &mut String, clients: &[usize]) -> Result<(), AllocError>
     Ok(())
 }
 
+// Appends a poll of each of some clients.
 fn push_polls(text: &mut String, clients: &[usize]) -> Result<(), AllocError>
     ensures { OnOk result (string_bytes text.new ≡ string_bytes text.old ++ polls clients.now) }
 {
@@ -43,19 +46,18 @@ fn push_polls(text: &mut String, clients: &[usize]) -> Result<(), AllocError>
     Ok(())
 }
 
-// Appends a removal, a poll, a disable or an enable.
-fn push_chosen(
+// Appends a removal of one of the files up to the i-th, a poll, a disable or an enable, as is drawn.
+fn push_action(
     text: &mut String,
     files: &[(Entry, Items<u8>)],
     draws: &mut Draws,
     i: usize,
-    action: usize,
 ) -> Result<(), AllocError>
     requires { i < length files.now }
-    ensures text { OnOk result (string_bytes text.new ≡ string_bytes text.old ++ chosen files.now i draws.old.state action) }
-    ensures draws { draws.new.state ≡ next draws.old.state }
+    ensures text { OnOk result (string_bytes text.new ≡ string_bytes text.old ++ action files.now i (next draws.old.state) (drawn draws.old.state 4)) }
+    ensures draws { draws.new.state ≡ after_action draws.old.state }
 {
-    match action {
+    match draws.draw(ACTIONS) {
         0 => {
             let (removed, _) = &files[draws.draw(i + 1)];
             push_path(text, "remove", &removed.path)
@@ -66,7 +68,7 @@ fn push_chosen(
     }
 }
 
-// Appends the import of a file, and what is drawn to follow it.
+// Appends the import of the i-th file, and what is drawn to follow it.
 #[tactic(auto, unfolding(crate::specs::Scripts::step))]
 fn push_step(
     text: &mut String,
@@ -75,14 +77,15 @@ fn push_step(
     i: usize,
 ) -> Result<(), AllocError>
     requires { i < length files.now }
-    ensures { OnOk result ((string_bytes text.new ≡ string_bytes text.old ++ step files.now draws.old.state i) × (draws.new.state ≡ after_step draws.old.state)) }
+    ensures text { OnOk result (string_bytes text.new ≡ string_bytes text.old ++ step files.now draws.old.state i) }
+    ensures draws { OnOk result (draws.new.state ≡ after_action draws.old.state) }
 {
     let (imported, _) = &files[i];
     push_path(text, "import", &imported.path)?;
-    let action = draws.draw(ACTIONS);
-    push_chosen(text, files, draws, i, action)
+    push_action(text, files, draws, i)
 }
 
+// Appends the imports of the files from one on, with what is drawn to follow each.
 fn push_steps(
     text: &mut String,
     files: &[(Entry, Items<u8>)],

@@ -1,4 +1,4 @@
-use Rattle.std.proofs.Common.{◌≡◌, ◌∙◌, sym, ap, false, true, rules}
+use Rattle.std.proofs.Common.{◌≡◌, ◌∙◌, sym, ap, true, rules}
 use mathlib.Core.Bool.{false≢true}
 use Rattle.md_value.specs.Path.{is_bad, normal}
 use Rattle.md_gen.specs.Files.{path}

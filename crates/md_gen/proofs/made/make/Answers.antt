@@ -1,5 +1,4 @@
 use Rattle.std.proofs.Common.{◌≡◌, ◌∙◌, ap, length}
-use Rattle.md_source.specs.Tree.{IsListing, entries_of}
 use Rattle.md_gen.specs.Files.{after_files, files}
 use Rattle.md_gen.specs.Scripts.{script, script_over}
 use Rattle.md_gen.proofs.Listed.{files_content}
