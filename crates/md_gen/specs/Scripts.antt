@@ -23,7 +23,7 @@ expressions =
 unfoldable pub expression : ℕ → List ℕ
 expression client = slice_index_or expressions client []
 
--- the options of a client's query
+-- the options of a client's query, with the space behind them
 abbrev pub options : ℕ → List ℕ
 options client = if nat_lt client 4 then [] else codes "update=5 "
 
@@ -55,7 +55,7 @@ queries clients = flat_map (λ client. query_line client ++ asked_line (codes "g
 abbrev pub polls : List ℕ → List ℕ
 polls clients = flat_map (asked_line (codes "poll")) clients
 
--- a removal of one of the files up to the i-th, a poll, a disable or an enable, by a number
+-- by a number, a removal of one of the files up to the i-th, or a poll, a disable or an enable of a client
 abbrev pub action : List File → ℕ → ℕ → ℕ → List ℕ
 action files i state zero = path_line (codes "remove") (path_at files (drawn state (i + 1)))
 action files i state (suc zero) = asked_line (codes "poll") (drawn state 8)

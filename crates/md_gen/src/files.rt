@@ -18,6 +18,7 @@ const WORDS: usize = 8;
 /// How many ratings there are, from 0 on.
 const RATINGS: usize = 6;
 
+// Appends an object of a title and a rating.
 fn push_json(text: &mut String, title: &str, rating: usize) -> Result<(), AllocError>
     ensures { OnOk result (string_bytes text.new ≡ string_bytes text.old ++ json title.now rating) }
 {
@@ -27,6 +28,7 @@ fn push_json(text: &mut String, title: &str, rating: usize) -> Result<(), AllocE
     )
 }
 
+// Appends a record of a keyword and a note, below the names of both.
 fn push_csv(text: &mut String, keyword: &str, note: &str) -> Result<(), AllocError>
     ensures { OnOk result (string_bytes text.new ≡ string_bytes text.old ++ csv keyword.now note.now) }
 {
@@ -73,6 +75,7 @@ fn push_path(text: &mut String, i: u32, kind: Kind) -> Result<(), AllocError>
     write!(text, "g/f{i}{ending}")
 }
 
+// The path of the i-th file, of which there are few enough that it is never refused.
 fn path_of(alloc: Global, i: u32, kind: Kind) -> Result<Path, AllocError>
     requires { i < 10000 }
     ensures { IfOk result (λ made. made ≡ path i kind) }
@@ -104,7 +107,7 @@ fn file(alloc: Global, draws: &mut Draws, i: u32) -> Result<(Entry, Items<u8>), 
     Ok((entry, Items::from_vec(content)))
 }
 
-/// The first files, with what they hold.
+/// The first n files, with what they hold.
 pub(crate) fn files(
     alloc: Global,
     draws: &mut Draws,

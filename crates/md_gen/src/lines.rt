@@ -24,6 +24,7 @@ pub(crate) fn push_asked(text: &mut String, word: &str, client: usize) -> Result
     writeln!(text, "c{client} {word} 1")
 }
 
+// The options of a client's query, with the space behind them.
 fn options(client: usize) -> &'static str
     ensures { result.now ≡ options client }
 {
