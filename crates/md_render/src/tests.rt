@@ -1,4 +1,4 @@
-use crate::{entry_text, escaped, push_held, push_unheld};
+use crate::{entry_text, escaped, push_entry, push_held, push_unheld};
 use md_expr_tree::{Expr, Literal, Op, Subject, Test};
 use md_machine::{Batch, Event, Reply, Spec};
 use md_value::{Attrs, Items, Path};
@@ -53,56 +53,69 @@ fn create(alloc: Global) -> Event {
     }
 }
 
-// Each event, and each reply to one that is no query's.
+fn draw(alloc: Global) -> Result<Event, Fail> {
+    let path = Path::read(alloc, "docs//a b\t.txt")?;
+    Ok(Event::Draw { path })
+}
+
+// Writes the entry of place 30.
+fn push(text: &mut String, event: Event, reply: Reply) -> Result<(), Fail> {
+    push_entry(text, 30, &event, &reply)?;
+    Ok(())
+}
+
+// Each event of a ticket and a vacuum, and each reply to them.
 #[test]
-fn writes_events(rt: HostRuntime) -> Result<(), Fail> {
+fn writes_tickets(rt: HostRuntime) -> Result<(), Fail> {
     let alloc = rt.alloc();
-    let draw = Event::Draw {
-        path: Path::read(alloc, "docs//a b\t.txt")?,
-    };
-    let commit = Event::Commit {
-        ticket: 4,
-        change: Change::Remove,
-    };
-    let close = Event::Close { ticket: 5 };
-    let vacuum = Event::Vacuum { client: 255 };
-    let create = create(alloc);
+    let mut text = String::new(alloc);
+    push(&mut text, draw(alloc)?, Reply::Ticket(4))?;
+    push(&mut text, draw(alloc)?, Reply::TicketsSpent)?;
+    for reply in [
+        Reply::Committed(17),
+        Reply::Superseded(9),
+        Reply::StoreFull,
+        Reply::NoTicket,
+    ] {
+        let change = Change::Remove;
+        push(&mut text, Event::Commit { ticket: 4, change }, reply)?;
+    }
+    for reply in [Reply::Closed, Reply::NoTicket] {
+        push(&mut text, Event::Close { ticket: 5 }, reply)?;
+    }
+    push(&mut text, Event::Vacuum { client: 255 }, Reply::Vacuumed)?;
+    assert_eq!(rt;
+        text.as_str(),
+        "30 ticket 4 docs/a b\\t.txt\n30 tickets-spent docs/a b\\t.txt\n30 committed 4 17\n30 superseded 4 9\n30 store-full 4\n30 no-ticket 4\n30 closed 5\n30 no-ticket 5\n30 c255 vacuumed\n"
+    );
+    Ok(())
+}
+
+// Each event of a query.
+#[test]
+fn writes_queries(rt: HostRuntime) -> Result<(), Fail> {
+    let alloc = rt.alloc();
     let (client, number, now_ms) = (1, 2, 3);
     let gather = Event::Gather {
         client,
         number,
         now_ms,
     };
-    let disable = Event::Disable { client, number };
     let enable = Event::Enable {
         client,
         number,
         now_ms,
     };
-    let stop = Event::Stop { client, number };
-    let rows = [
-        (&draw, Reply::Ticket(4), "30 ticket 4 docs/a b\\t.txt\n"),
-        (
-            &draw,
-            Reply::TicketsSpent,
-            "30 tickets-spent docs/a b\\t.txt\n",
-        ),
-        (&commit, Reply::Committed(17), "30 committed 4 17\n"),
-        (&commit, Reply::Superseded(9), "30 superseded 4 9\n"),
-        (&commit, Reply::StoreFull, "30 store-full 4\n"),
-        (&commit, Reply::NoTicket, "30 no-ticket 4\n"),
-        (&close, Reply::Closed, "30 closed 5\n"),
-        (&close, Reply::NoTicket, "30 no-ticket 5\n"),
-        (&vacuum, Reply::Vacuumed, "30 c255 vacuumed\n"),
-        (&create, Reply::Created(9), "30 c7 q0 created 9\n"),
-        (&gather, Reply::NoQuery, "30 c1 q2 no-query\n"),
-        (&disable, Reply::TooDeep, "30 c1 q2 too-deep\n"),
-        (&enable, Reply::Resumed, "30 c1 q2 resumed\n"),
-        (&stop, Reply::Stopped, "30 c1 q2 stopped\n"),
-    ];
-    for (event, reply, want) in &rows {
-        assert_eq!(rt; entry_text(alloc, 30, event, reply)?.as_str(), *want);
-    }
+    let mut text = String::new(alloc);
+    push(&mut text, create(alloc), Reply::Created(9))?;
+    push(&mut text, gather, Reply::NoQuery)?;
+    push(&mut text, Event::Disable { client, number }, Reply::TooDeep)?;
+    push(&mut text, enable, Reply::Resumed)?;
+    push(&mut text, Event::Stop { client, number }, Reply::Stopped)?;
+    assert_eq!(rt;
+        text.as_str(),
+        "30 c7 q0 created 9\n30 c1 q2 no-query\n30 c1 q2 too-deep\n30 c1 q2 resumed\n30 c1 q2 stopped\n"
+    );
     Ok(())
 }
 
