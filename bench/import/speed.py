@@ -10,12 +10,14 @@ import csv
 import json
 import pathlib
 import random
-import shutil
 import subprocess
+import sys
 import tempfile
 import time
 
-ROOT = pathlib.Path(__file__).resolve().parents[2]
+sys.path.insert(0, str(pathlib.Path(__file__).resolve().parents[1]))
+import programs
+
 USED = ["imp_kind", "md_source", "md_value"]
 BASE = 9
 
@@ -57,34 +59,10 @@ fn main(rt: HostRuntime) -> anyhow::Result<()> {
 """
 
 
-def below(used, lines):
-    """The repository's crates that these stand on, and these."""
-    deps = {line.split(":")[0]: line.split(":")[1].split() for line in lines if ":" in line}
-    found = []
-    left = list(used)
-    while left:
-        crate = left.pop()
-        if crate in deps and crate not in found:
-            found.append(crate)
-            left += deps[crate]
-    return found
-
-
 def build(top):
-    lines = (ROOT / "crates.txt").read_text().splitlines()
-    crates = below(USED, lines)
-    for crate in crates:
-        shutil.copytree(ROOT / "crates" / crate, top / "crates" / crate, ignore=shutil.ignore_patterns("out"))
-    lines = [line for line in lines if line.split(":")[0] in crates]
-    lines.append(f"speed: {' '.join(USED)} anyhow")
-    (top / "crates.txt").write_text("\n".join(lines) + "\n")
-    source = top / "crates" / "speed" / "src"
-    source.mkdir(parents=True)
-    (source / "main.rt").write_text(PROGRAM)
-    empty = top / "empty"
-    empty.mkdir()
-    subprocess.run(["rt", "run"], cwd=top / "crates" / "speed", check=True, stdout=subprocess.DEVNULL)
-    return top / "crates" / "speed" / "out" / "speed"
+    folder = programs.write(top, USED, PROGRAM)
+    subprocess.run(["rt", "run"], cwd=folder, check=True, stdout=subprocess.DEVNULL)
+    return folder / "out" / "speed"
 
 
 def make_json(folder):

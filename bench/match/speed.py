@@ -6,11 +6,13 @@ Prints a line for each measure, three times: how many of 1,000,000 rows pass, an
 `rustc` in the path, a gigabyte of memory, and about ten minutes."""
 
 import pathlib
-import shutil
 import subprocess
+import sys
 import tempfile
 
-ROOT = pathlib.Path(__file__).resolve().parents[2]
+sys.path.insert(0, str(pathlib.Path(__file__).resolve().parents[1]))
+import programs
+
 USED = ["md_match", "md_expr", "md_world", "md_value"]
 
 PROGRAM = """//! Times filters.
@@ -185,31 +187,8 @@ fn main() {
 """
 
 
-def below(used, lines):
-    """The repository's crates that these stand on, and these."""
-    deps = {line.split(":")[0]: line.split(":")[1].split() for line in lines if ":" in line}
-    found = []
-    left = list(used)
-    while left:
-        crate = left.pop()
-        if crate in deps and crate not in found:
-            found.append(crate)
-            left += deps[crate]
-    return found
-
-
 def run_filters(top):
-    lines = (ROOT / "crates.txt").read_text().splitlines()
-    crates = below(USED, lines)
-    for crate in crates:
-        shutil.copytree(ROOT / "crates" / crate, top / "crates" / crate, ignore=shutil.ignore_patterns("out"))
-    lines = [line for line in lines if line.split(":")[0] in crates]
-    lines.append(f"speed: {' '.join(USED)} anyhow")
-    (top / "crates.txt").write_text("\n".join(lines) + "\n")
-    source = top / "crates" / "speed" / "src"
-    source.mkdir(parents=True)
-    (source / "main.rt").write_text(PROGRAM)
-    subprocess.run(["rt", "run"], cwd=top / "crates" / "speed", check=True)
+    subprocess.run(["rt", "run"], cwd=programs.write(top, USED, PROGRAM), check=True)
 
 
 def run_plain(top):

@@ -1,0 +1,34 @@
+"""Programs over crates of this repository, built in a folder of their own with `rt`."""
+
+import pathlib
+import shutil
+
+ROOT = pathlib.Path(__file__).resolve().parents[1]
+
+
+def below(used, lines):
+    """The repository's crates that these stand on, and these."""
+    deps = {line.split(":")[0]: line.split(":")[1].split() for line in lines if ":" in line}
+    found = []
+    left = list(used)
+    while left:
+        crate = left.pop()
+        if crate in deps and crate not in found:
+            found.append(crate)
+            left += deps[crate]
+    return found
+
+
+def write(top, used, program):
+    """Writes the program `speed` over these crates, beside copies of them, and answers its folder."""
+    lines = (ROOT / "crates.txt").read_text().splitlines()
+    crates = below(used, lines)
+    for crate in crates:
+        shutil.copytree(ROOT / "crates" / crate, top / "crates" / crate, ignore=shutil.ignore_patterns("out"))
+    lines = [line for line in lines if line.split(":")[0] in crates]
+    lines.append(f"speed: {' '.join(used)} anyhow")
+    (top / "crates.txt").write_text("\n".join(lines) + "\n")
+    folder = top / "crates" / "speed"
+    (folder / "src").mkdir(parents=True)
+    (folder / "src" / "main.rt").write_text(program)
+    return folder
