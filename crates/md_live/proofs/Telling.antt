@@ -1,8 +1,7 @@
--- The journal of a line, and then of the lines after it.
-use Rattle.std.proofs.Common.{◌≡◌, ℕ, ℤ, ◌+◌, ◌≤◌, List, ◌++◌, length, sym, ◌∙◌, ap, arith, append_assoc}
+-- The texts of a line, and then of the lines after it.
+use Rattle.std.proofs.Common.{◌≡◌, ℕ, ℤ, ◌+◌, ◌≤◌, List, ◌++◌, [], length, sym, ◌∙◌, ap, arith, append_assoc, Option, Some, None}
 use Rattle.md_value.specs.Values.{PathBytes}
 use Rattle.md_world.specs.declared.Change.{Change}
-use Rattle.md_world.specs.declared.Change.TheVariants as change
 use Rattle.md_machine.specs.declared.Event.{Event}
 use Rattle.md_machine.specs.declared.Event.TheVariants as event
 use Rattle.md_machine.specs.declared.Reply.{Reply}
@@ -15,8 +14,8 @@ use Rattle.md_render.specs.Texts.{journal_text}
 use Rattle.md_render.proofs.Joined.{journal_text-append}
 use Rattle.md_script.specs.declared.script.What.{What}
 use Rattle.md_script.specs.declared.script.What.TheVariants as what
-use Rattle.md_tool.specs.Events.{after_commit, after_draw, job, line_events, entries_from}
-use Rattle.md_tool.specs.Telling.{Telling, told}
+use Rattle.md_live.specs.Events.{after_commit, end_of, after_draw, job, line_events, entries_from}
+use Rattle.md_live.specs.Telling.{Telling, told}
 
 -- what was written of the events, then what is to be written of those after them
 pub told_then : (t : Telling) (events more : List Event)
@@ -34,17 +33,21 @@ few_after_commit : (ticket : ℕ) (r : Reply) → length (after_commit ticket r)
 few_after_commit ticket reply.StoreFull = omega arith
 few_after_commit ticket _ = omega arith
 
-few_after_draw : (s : State) (c : Change) (r : Reply) → length (after_draw s c r) ≤ 2
-few_after_draw s c (reply.Ticket ticket) = omega (arith, few_after_commit ticket (step s (event.Commit ticket c)).reply)
+few_at_end : (s : State) (ticket : ℕ) (c : Option Change) → length (end_of s ticket c) ≤ 2
+few_at_end s ticket (Some c) = omega (arith, few_after_commit ticket (step s (event.Commit ticket c)).reply)
+few_at_end s ticket None = omega arith
+
+few_after_draw : (s : State) (c : Option Change) (r : Reply) → length (after_draw s c r) ≤ 2
+few_after_draw s c (reply.Ticket ticket) = few_at_end s ticket c
 few_after_draw s c _ = omega arith
 
-few_in_job : (s : State) (path : PathBytes) (c : Change) → length (job s path c) ≤ 3
+few_in_job : (s : State) (path : PathBytes) (c : Option Change) → length (job s path c) ≤ 3
 few_in_job s path c = omega (arith, few_after_draw (step s (event.Draw path)).state c (step s (event.Draw path)).reply)
 
 -- a line has at most three events
-pub few_events : (now : ℤ) (s : State) (w : What) → length (line_events now s w) ≤ 3
-few_events now s (what.Put path text) = few_in_job s path _
-few_events now s (what.Remove path) = few_in_job s path change.Remove
-few_events now s (what.Query client number expr) = omega arith
-few_events now s (what.Gather client number) = omega arith
-few_events now s (what.Poll client number) = omega arith
+pub few_events : (now offset : ℤ) (s : State) (w : What) → length (line_events now offset s w) ≤ 3
+few_events now offset s (what.Put path text) = few_in_job s path _
+few_events now offset s (what.Remove path) = few_in_job s path _
+few_events now offset s (what.Query client number expr) = omega arith
+few_events now offset s (what.Gather client number) = omega arith
+few_events now offset s (what.Poll client number) = omega arith

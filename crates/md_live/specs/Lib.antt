@@ -1,0 +1,5 @@
+pub mod Files
+pub mod Events
+pub mod TimeForms
+pub mod Telling
+pub mod Journals

@@ -1,0 +1,22 @@
+-- The forms of time of a script whose moments are out of range.
+use Rattle.std.specs.Prelude.{ℕ, ℤ, List, [], ◌∷◌, Option, None, Some}
+use Rattle.std.specs.Option.{option_map}
+use Rattle.md_match.specs.Forms.{first_out_of_range, capped}
+use Rattle.md_script.specs.declared.script.What.{What}
+use Rattle.md_script.specs.declared.script.What.TheVariants as what
+use Rattle.md_script.specs.declared.script.Line.{Line}
+
+-- the number of the first form of time of a line, from 1, whose moment is out of range now at the offset; no number is above 2 ^ 32 - 1
+abbrev pub form_out : ℤ → ℤ → What → Option ℕ
+form_out now offset (what.Query client number expr) = option_map capped (first_out_of_range now offset expr)
+form_out now offset _ = None
+
+-- the first, or the second where there is none
+abbrev pub first_of : Option (ℕ × ℕ) → Option (ℕ × ℕ) → Option (ℕ × ℕ)
+first_of (Some x) other = Some x
+first_of None other = other
+
+-- the number of the first line with such a form, and the form's number
+abbrev pub out_of_range : ℤ → ℤ → List Line → Option (ℕ × ℕ)
+out_of_range now offset [] = None
+out_of_range now offset (line ∷ lines) = first_of (option_map (λ form. (line.number, form)) (form_out now offset line.what)) (out_of_range now offset lines)

@@ -1,6 +1,0 @@
-use Rattle.std.proofs.Common.{◌≡◌, drop}
-use Rattle.md_tool.specs.TimeForms.{out_of_range}
-use Rattle.md_tool.proofs.time_forms.out_of_range.Given as goal
-
-abbrev pub invariant-loop-line : goal.invariant-loop-line
-invariant-loop-line l = out_of_range l.now l.lines ≡ out_of_range l.now (drop l.line-index l.lines)
