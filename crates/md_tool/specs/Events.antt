@@ -9,6 +9,7 @@ use Rattle.md_machine.specs.declared.Event.TheVariants as event
 use Rattle.md_machine.specs.declared.Reply.{Reply}
 use Rattle.md_machine.specs.declared.Reply.TheVariants as reply
 use Rattle.md_machine.specs.Answers.{asked}
+use Rattle.md_machine.specs.declared.TheConstants.Batch.{NONE}
 use Rattle.md_machine.specs.States.{State}
 use Rattle.md_machine.specs.Steps.{step}
 use Rattle.md_machine.specs.Runs.{Entry, run_from}
@@ -32,11 +33,11 @@ abbrev pub job : State → PathBytes → Change → List Event
 job s path change = event.Draw path ∷ after_draw (step s (event.Draw path)).state change (step s (event.Draw path)).reply
 
 -- the events of a line in a state: a file that is put was changed now, a query's forms of time are told from now in UTC
--- and it asks for files anywhere, and each event is at 0 milliseconds
+-- and it asks for files anywhere, by their paths and without batches, and each event is at 0 milliseconds
 abbrev pub line_events : ℤ → State → What → List Event
 line_events now s (what.Put path text) = job s path (change.Put (plain_text path text now))
 line_events now s (what.Remove path) = job s path change.Remove
-line_events now s (what.Query client number expr) = event.Create client number (asked expr now (pos 0) []) ∷ []
+line_events now s (what.Query client number expr) = event.Create client number (asked expr now (pos 0) [] [] NONE) ∷ []
 line_events now s (what.Gather client number) = event.Gather client number 0 ∷ []
 line_events now s (what.Poll client number) = event.Poll client number 0 ∷ []
 

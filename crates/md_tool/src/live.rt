@@ -3,6 +3,7 @@ ghost use Rattle.std.specs.Prelude.{◌≡◌, ◌+◌, ◌*◌, ◌<◌, ◌≤
 ghost use Rattle.md_value.specs.Values.{IsMoment};
 ghost use Rattle.md_world.specs.declared.TheConstants.Limits.{STANDARD};
 ghost use Rattle.md_machine.specs.Answers.{asked};
+ghost use Rattle.md_machine.specs.declared.TheConstants.Batch.{NONE};
 ghost use Rattle.md_machine.specs.States.{opening};
 ghost use Rattle.md_machine.specs.Steps.{step};
 ghost use Rattle.md_machine.specs.Runs.{entries};
@@ -13,11 +14,11 @@ ghost use Rattle.md_tool.specs.Telling.{Telling, told};
 use crate::files::plain_text;
 use md_expr_tree::Expr;
 use md_hub::Hub;
-use md_machine::{Event, Reply, Spec};
+use md_machine::{Batch, Event, Reply, Spec};
 use md_render::entry_text;
 use md_script::{Line, What};
 use md_value::{Copied, Path};
-use md_world::{Change, Limits};
+use md_world::{Change, Limits, Order};
 use std::alloc::{AllocError, Global};
 use std::marker::Model;
 
@@ -43,13 +44,14 @@ impl Model for Live {
     ghost view = { λ l. record { state = l.hub; text = string_bytes l.text; next = l.next } };
 }
 
-// What asks for the files that satisfy the expression now in UTC, anywhere. No form of time is out of range where this
-// is called; if one were, this would answer want of memory.
+// What asks for the files that satisfy the expression now in UTC, anywhere, by their paths and without batches. No form
+// of time is out of range where this is called; if one were, this would answer want of memory.
 fn spec_of(alloc: Global, expr: &Expr, now: i64) -> Result<Spec, AllocError>
-    ensures { IfOk result (λ spec. spec ≡ asked expr.now now (pos 0) []) }
+    ensures { IfOk result (λ spec. spec ≡ asked expr.now now (pos 0) [] [] NONE) }
 {
     let expr = expr.copy(alloc)?;
-    match Spec::new(expr, now, 0, Path::root(alloc)) {
+    let order = Order::by_path(alloc);
+    match Spec::new(expr, now, 0, Path::root(alloc), order, Batch::NONE) {
         Ok(spec) => Ok(spec),
         Err(_) => Err(AllocError),
     }
