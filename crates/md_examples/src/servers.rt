@@ -4,7 +4,7 @@ use md_hub::run;
 use md_machine::{Batch, Event, Spec};
 use md_render::push_entry;
 use md_value::{Attrs, Name, Path, Text, Value};
-use md_world::{Change, Limits};
+use md_world::{Change, Limits, Order};
 use std::alloc::Global;
 use std::test::Fail;
 
@@ -56,6 +56,7 @@ fn create_by(alloc: Global, batch: Batch) -> Result<Event, Fail> {
             now: 0,
             offset: 0,
             scope: Path::root(alloc),
+            order: Order::by_path(alloc),
             batch,
         },
     })

@@ -1,15 +1,16 @@
 // The server: tickets, versions and queries, one event at a time.
-ghost use Rattle.std.specs.Prelude.{◌≡◌, IfOk, OnOk, OnErr, true};
+ghost use Rattle.std.specs.Prelude.{◌≡◌, IfOk, OnOk, OnErr, true, false};
+ghost use Rattle.md_machine.specs.Replies.{delivers, takes_memory};
 ghost use Rattle.md_machine.specs.States.{opening, ticket_at, query_at};
 ghost use Rattle.md_machine.specs.Steps.{step, asked};
 ghost use Rattle.md_hub.specs.Asked.{answered};
 ghost use Rattle.md_hub.specs.Verdicts.{verdict_of};
-ghost use Rattle.md_hub.specs.Stepping.{IsStep, takes_memory, is_plain};
+ghost use Rattle.md_hub.specs.Stepping.{IsStep};
 
 use crate::desk::{self, LastCommit, OpenTicket};
 use crate::queries::{self, Call};
 use crate::query::{Ask, LiveQuery};
-use crate::{edits, tables, twin};
+use crate::{edits, tables};
 use md_machine::{Event, Reply, Spec};
 use md_value::{Copied, Path};
 use md_world::{Change, Limits, Row};
@@ -75,7 +76,7 @@ impl Hub {
         ensures state { OnOk result (self.new ≡ (step self.old (Event.Draw path.now)).state) }
         ensures err { OnErr result (self.new ≡ self.old) }
         ensures memory { OnErr result (takes_memory (step self.old (Event.Draw path.now)).reply ≡ true) }
-        ensures plain { IfOk result (λ r. is_plain r ≡ true) }
+        ensures plain { IfOk result (λ r. delivers r ≡ false) }
     {
         if self.drawn >= self.limits.tickets {
             return Ok(Reply::TicketsSpent);
@@ -116,7 +117,7 @@ impl Hub {
         ensures state { OnOk result (self.new ≡ (step self.old (Event.Commit number change.now)).state) }
         ensures err { OnErr result (self.new ≡ self.old) }
         ensures memory { OnErr result (takes_memory (step self.old (Event.Commit number change.now)).reply ≡ true) }
-        ensures plain { IfOk result (λ r. is_plain r ≡ true) }
+        ensures plain { IfOk result (λ r. delivers r ≡ false) }
     {
         match desk::ticket_at(&self.tickets, number) {
             None => Ok(Reply::NoTicket),
@@ -138,7 +139,7 @@ impl Hub {
         ensures state { OnOk result (self.new ≡ (step self.old (Event.Commit number change.now)).state) }
         ensures err { OnErr result (self.new ≡ self.old) }
         ensures memory { OnErr result (takes_memory (step self.old (Event.Commit number change.now)).reply ≡ true) }
-        ensures plain { IfOk result (λ r. is_plain r ≡ true) }
+        ensures plain { IfOk result (λ r. delivers r ≡ false) }
     {
         match self.verdict(number) {
             Verdict::NoTicket => Ok(Reply::NoTicket),
@@ -154,7 +155,7 @@ impl Hub {
     fn close(&mut self, number: u32) -> Reply
         ensures reply { result ≡ (step self.old (Event.Close number)).reply }
         ensures state { self.new ≡ (step self.old (Event.Close number)).state }
-        ensures plain { is_plain result ≡ true }
+        ensures plain { delivers result ≡ false }
     {
         match desk::ticket_at(&self.tickets, number) {
             None => Reply::NoTicket,
@@ -176,7 +177,7 @@ impl Hub {
         ensures state { OnOk result (self.new ≡ (step self.old (Event.Create client number spec.entry.now)).state) }
         ensures err { OnErr result (self.new ≡ self.old) }
         ensures memory { OnErr result (takes_memory (step self.old (Event.Create client number spec.entry.now)).reply ≡ true) }
-        ensures plain { IfOk result (λ r. is_plain r ≡ true) }
+        ensures plain { IfOk result (λ r. delivers r ≡ false) }
     {
         if queries::is_live(&self.queries, client, number) {
             return Ok(Reply::Taken);
@@ -228,7 +229,7 @@ impl Hub {
     fn stop(&mut self, client: u8, number: u32) -> Reply
         ensures reply { result ≡ (step self.old (Event.Stop client number)).reply }
         ensures state { self.new ≡ (step self.old (Event.Stop client number)).state }
-        ensures plain { is_plain result ≡ true }
+        ensures plain { delivers result ≡ false }
     {
         if queries::is_live(&self.queries, client, number) {
             queries::take_out(&mut self.queries, client, number);
@@ -352,9 +353,9 @@ fn call(client: u8, number: u32, ask: Ask, now_ms: u64) -> Call
 }
 
 fn twice(reply: Reply) -> (Reply, Reply)
-    requires { is_plain reply ≡ true }
+    requires { delivers reply ≡ false }
     ensures { result ≡ (reply, reply) }
 {
-    let copy = twin::plain_copy(&reply);
+    let copy = reply.plain_copy();
     (reply, copy)
 }

@@ -8,7 +8,6 @@ mod queries;
 mod query;
 mod runs;
 mod tables;
-mod twin;
 
 pub use hub::Hub;
 pub use runs::run;

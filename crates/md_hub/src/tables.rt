@@ -1,8 +1,9 @@
 // Rows and tables: a query's hits on a table, and how two lists of hits differ.
-ghost use Rattle.std.specs.Prelude.{◌≡◌, ◌+◌, ◌≤◌, ◌<◌, ◌^◌, not, IfOk, map, filter, drop, length};
+ghost use Rattle.std.specs.Prelude.{◌≡◌, ◌+◌, ◌≤◌, ◌<◌, ◌^◌, not, List, IfOk, map, filter, drop, length};
 ghost use Rattle.std.specs.Option.{option_map};
 ghost use Rattle.md_world.specs.Tables.{at, has_path, shown};
 ghost use Rattle.md_world.specs.Differences.{difference, items_of, was_other};
+ghost use Rattle.md_world.specs.declared.order.SortKey.{SortKey};
 ghost use Rattle.md_machine.specs.declared.Batch.{Batch};
 ghost use Rattle.md_machine.specs.Answers.{answer, notice_of};
 ghost use Rattle.md_hub.specs.Rows.{rows_of, spec_of};
@@ -19,7 +20,7 @@ pub fn answer<'a>(
     filter: &Filter,
     table: &'a [Row],
 ) -> Result<Vec<&'a Row>, AllocError>
-    ensures { IfOk result (λ hits. (batch : Batch) → rows_of hits.items ≡ answer (spec_of filter.now batch) table.now) }
+    ensures { IfOk result (λ hits. (order : List SortKey) (batch : Batch) → rows_of hits.items ≡ answer (spec_of filter.now order batch) table.now) }
 {
     let mut hits = Vec::new(alloc);
     for row in table {

@@ -9,6 +9,7 @@ use Rattle.md_machine.specs.declared.Event.TheVariants as event
 use Rattle.md_machine.specs.declared.Reply.{Reply}
 use Rattle.md_machine.specs.declared.Reply.TheVariants as reply
 use Rattle.md_machine.specs.Answers.{asked}
+use Rattle.md_machine.specs.declared.TheConstants.Batch.{NONE}
 use Rattle.md_machine.specs.States.{State}
 use Rattle.md_machine.specs.Steps.{step}
 use Rattle.md_machine.specs.Runs.{Entry, run_from}
@@ -37,11 +38,11 @@ abbrev pub job : State → PathBytes → Option Change → List Event
 job s path change = event.Draw path ∷ after_draw (step s (event.Draw path)).state change (step s (event.Draw path)).reply
 
 -- the events of a line in a state: a file that is put was changed now, a query's forms of time are told from now at the
--- offset and it asks for files anywhere, and each event is at 0 milliseconds
+-- offset and it asks for files anywhere, by their paths and without batches, and each event is at 0 milliseconds
 abbrev pub line_events : ℤ → ℤ → State → What → List Event
 line_events now offset s (what.Put path text) = job s path (change_of (put_file now offset path text))
 line_events now offset s (what.Remove path) = job s path (Some change.Remove)
-line_events now offset s (what.Query client number expr) = event.Create client number (asked expr now offset []) ∷ []
+line_events now offset s (what.Query client number expr) = event.Create client number (asked expr now offset [] [] NONE) ∷ []
 line_events now offset s (what.Gather client number) = event.Gather client number 0 ∷ []
 line_events now offset s (what.Poll client number) = event.Poll client number 0 ∷ []
 

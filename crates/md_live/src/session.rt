@@ -3,6 +3,7 @@ ghost use Rattle.std.specs.Prelude.{◌≡◌, ◌+◌, ◌*◌, ◌<◌, ◌≤
 ghost use Rattle.md_value.specs.Values.{IsMoment};
 ghost use Rattle.md_world.specs.declared.TheConstants.Limits.{STANDARD};
 ghost use Rattle.md_machine.specs.Answers.{asked};
+ghost use Rattle.md_machine.specs.declared.TheConstants.Batch.{NONE};
 ghost use Rattle.md_machine.specs.States.{opening};
 ghost use Rattle.md_machine.specs.Steps.{step};
 ghost use Rattle.md_script.specs.declared.script.What.TheVariants.{Put};
@@ -15,13 +16,13 @@ use crate::Printed;
 use imp_kind::{Imported, import};
 use md_expr_tree::Expr;
 use md_hub::Hub;
-use md_machine::{Event, Reply, Spec};
+use md_machine::{Batch, Event, Reply, Spec};
 use md_print::fault_text;
 use md_render::entry_text;
 use md_script::{Content, Line, What};
 use md_source::Entry;
 use md_value::{Copied, Fault, Path};
-use md_world::{Change, Limits};
+use md_world::{Change, Limits, Order};
 use std::alloc::{AllocError, Global};
 use std::marker::Model;
 
@@ -55,13 +56,14 @@ impl Model for Session {
     ghost view = { λ s. record { state = s.hub; text = string_bytes s.text; err = string_bytes s.err; next = s.next } };
 }
 
-// What asks for the files that satisfy the expression, anywhere. No form of time is out of range where this is called;
-// if one were, this would answer want of memory.
+// What asks for the files that satisfy the expression, anywhere, by their paths and without batches. No form of time is
+// out of range where this is called; if one were, this would answer want of memory.
 fn spec_of(alloc: Global, expr: &Expr, setting: &Setting) -> Result<Spec, AllocError>
-    ensures { IfOk result (λ spec. spec ≡ asked expr.now setting.entry.now setting.entry.offset []) }
+    ensures { IfOk result (λ spec. spec ≡ asked expr.now setting.entry.now setting.entry.offset [] [] NONE) }
 {
     let expr = expr.copy(alloc)?;
-    match Spec::new(expr, setting.now, setting.offset, Path::root(alloc)) {
+    let order = Order::by_path(alloc);
+    match Spec::new(expr, setting.now, setting.offset, Path::root(alloc), order, Batch::NONE) {
         Ok(spec) => Ok(spec),
         Err(_) => Err(AllocError),
     }

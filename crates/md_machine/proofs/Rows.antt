@@ -10,11 +10,12 @@ use Rattle.md_world.specs.declared.Limits.{Limits}
 use Rattle.md_world.specs.declared.Change.TheVariants.{Put, Remove}
 use Rattle.md_world.specs.Tables.{text_content}
 use Rattle.md_machine.specs.declared.Batch.{Batch}
+use Rattle.md_machine.specs.declared.TheConstants.Batch.{NONE}
 use Rattle.md_machine.specs.declared.Spec.{Spec}
 use Rattle.md_machine.specs.declared.Event.{Event}
 use Rattle.md_machine.specs.declared.Event.TheVariants as event
 use Rattle.md_machine.specs.declared.Reply.TheVariants as reply
-use Rattle.md_machine.specs.Answers.{answer}
+use Rattle.md_machine.specs.Answers.{asked, answer}
 use Rattle.md_expr_tree.specs.declared.tree.Expr.{Expr}
 use Rattle.md_machine.specs.Runs.{run}
 
@@ -32,19 +33,16 @@ file name content = (file_name, value.Text name ∷ []) ∷ (text_content, value
 abbrev row : List ℕ → Row
 row name = record { path = name; attrs = (file_name, value.Text name ∷ []) ∷ [] }
 
-abbrev at_once : Batch
-at_once = record { first = None; progress = None; update = None; ms = None }
-
 -- what asks for the files that satisfy the expression
 abbrev files_by : Expr → Batch → Spec
-files_by e batch = record { expr = e; now = pos 0; offset = pos 0; scope = []; batch = batch }
+files_by e batch = asked e (pos 0) (pos 0) [] [] batch
 
 -- every row satisfies the expression
 abbrev IsForAll : Expr → Type 0
 IsForAll e = (batch : Batch) (rows : List Row) → answer (files_by e batch) rows ≡ rows
 
 abbrev all_files : Expr → Spec
-all_files e = files_by e at_once
+all_files e = files_by e NONE
 
 abbrev a_txt : List ℕ
 a_txt = codes "a.txt"

@@ -9,7 +9,7 @@ use Rattle.md_world.specs.declared.Change.{Change}
 use Rattle.md_world.specs.Tables.{IsTable, at, has_path, without_path, after, same_row}
 use Rattle.md_world.specs.Differences.{was_other, difference, items_of}
 use Rattle.md_world.proofs.Lookups.{by_test, at_own, at_front, passing, table_filter, at_filter, at-without_path, at-after}
-use Rattle.md_world.proofs.Order.{table_without_path, table_after}
+use Rattle.md_world.proofs.Tables.{table_without_path, table_after}
 use Rattle.md_world.proofs.Applied.{lists-paths_of, added_of, changed_of, is_removed, at-added, at-changed, lists-removed}
 use Rattle.md_machine.specs.declared.Spec.{Spec}
 use Rattle.md_machine.specs.Answers.{keeps, answer, diff}

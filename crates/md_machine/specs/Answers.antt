@@ -1,5 +1,5 @@
 -- What a query answers on a table, and how its answers on two tables differ.
-use Rattle.std.specs.Prelude.{ℕ, Bool, List, ◌&&◌, None, filter, map, ℤ}
+use Rattle.std.specs.Prelude.{ℕ, ◌==◌, Bool, false, List, ◌&&◌, Option, None, Some, filter, map, ℤ}
 use Rattle.md_value.specs.Path.{is_inside}
 use Rattle.md_value.specs.Values.{PathBytes}
 use Rattle.md_expr_tree.specs.declared.tree.Expr.{Expr}
@@ -8,12 +8,19 @@ use Rattle.md_world.specs.Tables.{shown}
 use Rattle.md_world.specs.Differences.{Difference, difference}
 use Rattle.md_world.specs.declared.Row.{Row}
 use Rattle.md_world.specs.declared.Notice.{Notice}
+use Rattle.md_world.specs.declared.order.SortKey.{SortKey}
+use Rattle.md_machine.specs.declared.Batch.{Batch}
 use Rattle.md_machine.specs.declared.Spec.{Spec}
 
--- what asks for the files inside the scope that satisfy the expression, each update at once
-abbrev pub asked : Expr → ℤ → ℤ → PathBytes → Spec
-asked expr now offset scope =
-    record { expr = expr; now = now; offset = offset; scope = scope; batch = record { first = None; progress = None; update = None; ms = None } }
+-- what asks, at a moment and an offset, for the files inside the scope that satisfy the expression, in this order and these batches
+abbrev pub asked : Expr → ℤ → ℤ → PathBytes → List SortKey → Batch → Spec
+asked expr now offset scope order batch =
+    record { expr = expr; now = now; offset = offset; scope = scope; order = order; batch = batch }
+
+-- whether a number is there and is 0
+abbrev pub is_zero : Option ℕ → Bool
+is_zero None = false
+is_zero (Some n) = n == 0
 
 -- whether a row is among a query's hits: inside its scope, and its attributes satisfy the expression
 unfoldable pub keeps : Spec → Row → Bool

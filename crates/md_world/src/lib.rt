@@ -1,10 +1,13 @@
-//! Rows, tables, changes, parts and notices.
+//! Rows, tables, changes, parts, notices and orders.
 #![tactic(auto)]
 
 ghost use Rattle.std.specs.Prelude.{◌≡◌, ◌==◌, [], IfOk, map};
 ghost use Rattle.md_world.specs.Tables.{shown, same_row};
 
+mod order;
+
 use md_value::{Attrs, Copied, Items, Path};
+pub use order::{NotShown, Order, SortKey};
 use std::alloc::{AllocError, Global};
 
 /// The attribute that is searched and not shown.
@@ -127,3 +130,6 @@ impl Copied for Notice {
         })
     }
 }
+
+#[cfg(test)]
+mod tests;
