@@ -1,7 +1,5 @@
-pub mod PlainText
-pub mod Events
-pub mod TimeForms
-pub mod Telling
 pub mod Outside
+pub mod Commands
 pub mod Reports
+pub mod Asking
 pub mod Codes

@@ -1,8 +1,9 @@
 -- What is told of the objects of the outside, before a run or after it.
-use Rattle.std.specs.Prelude.{◌≡◌, ℕ, ◌+◌, ◌≤◌, ℤ, List, length, take, IfSome, Option}
+use Rattle.std.specs.Prelude.{◌≡◌, ◌⊎◌, ℕ, ◌+◌, ◌≤◌, ℤ, List, length, take, IfSome, Option}
 use Rattle.std.specs.Io.KnownBytes.{Consumes, IsAtEnd}
 use Rattle.md_value.specs.Values.{IsMoment}
 use Rattle.md_source.specs.Causes.{Rose}
+use Rattle.md_source.specs.Tree.{Content}
 use Rattle.md_source.specs.Puts.{PutsNothing, PutsWhole, PutsPart}
 use Rattle.md_script.specs.declared.read.TheConstants.{MOST_BYTES}
 
@@ -16,8 +17,14 @@ pub record Shown : Type 0 where
   pub told : Option ℤ
   pub faults : ℕ
 
--- the script and the clock
+-- what a tree holds, where it is told, and how often it has failed
+pub record Files : Type 0 where
+  pub told : Option Content
+  pub faults : ℕ
+
+-- the tree, the script and the clock
 pub record Inputs : Type 0 where
+  pub tree : Files
   pub script : Bytes
   pub clock : Shown
 
@@ -39,12 +46,19 @@ pub record IsShown (old new : Shown) (now : ℤ) : Type 0 where
   pub told : IfSome old.told (λ moment. now ≡ moment)
   pub kept : new.faults ≡ old.faults
 
--- a source, a sink or a clock failed
+-- a source or a sink, a clock, a tree failed
 abbrev pub Fails : Bytes → Bytes → Type 0
 Fails old new = Rose old.faults new.faults
 
 abbrev pub ClockFails : Shown → Shown → Type 0
 ClockFails old new = Rose old.faults new.faults
+
+abbrev pub TreeFails : Files → Files → Type 0
+TreeFails old new = Rose old.faults new.faults
+
+-- some object failed
+abbrev pub InputFails : Inputs → Inputs → Type 0
+InputFails old new = TreeFails old.tree new.tree ⊎ (Fails old.script new.script ⊎ ClockFails old.clock new.clock)
 
 -- no byte was put
 abbrev pub TakesNothing : Bytes → Bytes → Type 0

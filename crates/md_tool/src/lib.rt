@@ -1,9 +1,11 @@
-//! The command `live`: from the bytes of a script to the bytes of its journal.
+//! The top call: from the program's words to what is printed.
 #![tactic(auto)]
 
-mod files;
 mod live;
-mod time_forms;
+mod report;
+mod status;
+mod tools;
 mod top;
 
-pub use top::{Outcome, Status, run};
+pub use status::{Outcome, Status};
+pub use top::{run, run_tool};

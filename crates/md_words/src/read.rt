@@ -1,7 +1,7 @@
 // The reader of the program's words.
-ghost use Rattle.std.specs.Prelude.{◌≡◌, ◌<◌, IfOk, IfSome, IsErrOf, Some, None, unsigned_abs};
+ghost use Rattle.std.specs.Prelude.{◌≡◌, true, ◌<◌, IfOk, IfSome, IsErrOf, Some, None, unsigned_abs};
 ghost use Rattle.md_words.specs.Words.{texts};
-ghost use Rattle.md_words.specs.Grammar.{at_offset, offset_then, command_of};
+ghost use Rattle.md_words.specs.Grammar.{is_offered, at_offset, offset_then, command_of};
 
 use crate::offset::offset_of;
 use crate::tools::tool_of;
@@ -13,6 +13,7 @@ use std::alloc::{AllocError, Global};
 fn at_offset(alloc: Global, offset: i32, words: &[String]) -> Result<Option<Command>, AllocError>
     requires { unsigned_abs offset < 1440 }
     ensures offset { IfOk result (λ command. IfSome command (λ c. unsigned_abs c.offset < 1440)) }
+    ensures offered { IfOk result (λ command. IfSome command (λ c. is_offered c.what ≡ true)) }
     ensures value { IfOk result (λ command. command ≡ at_offset offset (texts words.now)) }
 {
     match tool_of(alloc, words)? {
@@ -24,6 +25,7 @@ fn at_offset(alloc: Global, offset: i32, words: &[String]) -> Result<Option<Comm
 #[tactic(auto, unfolding(crate::specs::Grammar::offset_then))]
 fn offset_then(alloc: Global, words: &[String]) -> Result<Option<Command>, AllocError>
     ensures offset { IfOk result (λ command. IfSome command (λ c. unsigned_abs c.offset < 1440)) }
+    ensures offered { IfOk result (λ command. IfSome command (λ c. is_offered c.what ≡ true)) }
     ensures value { IfOk result (λ command. command ≡ offset_then (texts words.now)) }
 {
     let Some((word, rest)) = first_word(words) else {
@@ -38,6 +40,7 @@ fn offset_then(alloc: Global, words: &[String]) -> Result<Option<Command>, Alloc
 #[tactic(auto, unfolding(crate::specs::Grammar::command_of))]
 fn command_of(alloc: Global, words: &[String]) -> Result<Option<Command>, AllocError>
     ensures offset { IfOk result (λ command. IfSome command (λ c. unsigned_abs c.offset < 1440)) }
+    ensures offered { IfOk result (λ command. IfSome command (λ c. is_offered c.what ≡ true)) }
     ensures value { IfOk result (λ command. command ≡ command_of (texts words.now)) }
 {
     let Some((word, rest)) = first_word(words) else {
@@ -66,6 +69,7 @@ fn command_of(alloc: Global, words: &[String]) -> Result<Option<Command>, AllocE
 pub fn read_words(alloc: Global, words: &[String]) -> Result<Command, WordsError>
     ensures ok { IfOk result (λ command. command_of (texts words.now) ≡ Some command) }
     ensures offset { IfOk result (λ command. unsigned_abs command.offset < 1440) }
+    ensures offered { IfOk result (λ command. is_offered command.what ≡ true) }
     ensures usage { IsErrOf result WordsError.Usage → command_of (texts words.now) ≡ None }
 {
     match command_of(alloc, words)? {

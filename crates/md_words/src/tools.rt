@@ -1,9 +1,9 @@
 // The tools, and what words tell them.
-ghost use Rattle.std.specs.Prelude.{◌≡◌, IfOk, ◌∷◌, unwrap_or, codes};
+ghost use Rattle.std.specs.Prelude.{◌≡◌, true, IfOk, IfSome, ◌∷◌, unwrap_or, codes};
 ghost use Rattle.std.specs.Option.{option_map};
 ghost use Rattle.md_words.specs.Words.{texts, files_of};
 ghost use Rattle.md_words.specs.declared.command.Tool.TheVariants.{Import};
-ghost use Rattle.md_words.specs.Grammar.{alone, shown, show_of, import_of, tool_of};
+ghost use Rattle.md_words.specs.Grammar.{is_offered, alone, shown, show_of, import_of, tool_of};
 
 use crate::files::{files_below_root, files_of};
 use crate::options::{Options, options_of};
@@ -13,7 +13,8 @@ use md_value::{Items, Path};
 use std::alloc::{AllocError, Global};
 
 fn alone(tool: Tool, words: &[String]) -> Option<Tool>
-    ensures { result ≡ alone tool (texts words.now) }
+    ensures same { IfSome result (λ given. given ≡ tool) }
+    ensures value { result ≡ alone tool (texts words.now) }
 {
     match first_word(words) {
         Some(_) => None,
@@ -31,7 +32,8 @@ fn marker_of(alloc: Global, marker: Option<Word>) -> Result<Word, AllocError>
 }
 
 fn shown(alloc: Global, options: Options, files: Items<Path>) -> Result<Tool, AllocError>
-    ensures { IfOk result (λ tool. tool ≡ shown options files) }
+    ensures offered { IfOk result (λ tool. is_offered tool ≡ true) }
+    ensures value { IfOk result (λ tool. tool ≡ shown options files) }
 {
     let Options { raw, marker, names } = options;
     let marker = marker_of(alloc, marker)?;
@@ -45,7 +47,8 @@ fn shown(alloc: Global, options: Options, files: Items<Path>) -> Result<Tool, Al
 
 #[tactic(auto, unfolding(crate::specs::Grammar::show_of))]
 fn show_of(alloc: Global, words: &[String]) -> Result<Option<Tool>, AllocError>
-    ensures { IfOk result (λ tool. tool ≡ show_of (texts words.now)) }
+    ensures offered { IfOk result (λ tool. IfSome tool (λ given. is_offered given ≡ true)) }
+    ensures value { IfOk result (λ tool. tool ≡ show_of (texts words.now)) }
 {
     let Some((options, words)) = options_of(alloc, words)? else {
         return Ok(None);
@@ -57,7 +60,8 @@ fn show_of(alloc: Global, words: &[String]) -> Result<Option<Tool>, AllocError>
 }
 
 fn import_files(alloc: Global, words: &[String]) -> Result<Option<Tool>, AllocError>
-    ensures { IfOk result (λ tool. tool ≡ option_map Import (files_of (texts words.now))) }
+    ensures offered { IfOk result (λ tool. IfSome tool (λ given. is_offered given ≡ true)) }
+    ensures value { IfOk result (λ tool. tool ≡ option_map Import (files_of (texts words.now))) }
 {
     match files_of(alloc, words)? {
         Some(files) => Ok(Some(Tool::Import { files })),
@@ -67,7 +71,8 @@ fn import_files(alloc: Global, words: &[String]) -> Result<Option<Tool>, AllocEr
 
 #[tactic(auto, unfolding(crate::specs::Grammar::import_of))]
 fn import_of(alloc: Global, words: &[String]) -> Result<Option<Tool>, AllocError>
-    ensures { IfOk result (λ tool. tool ≡ import_of (texts words.now)) }
+    ensures offered { IfOk result (λ tool. IfSome tool (λ given. is_offered given ≡ true)) }
+    ensures value { IfOk result (λ tool. tool ≡ import_of (texts words.now)) }
 {
     let Some((word, rest)) = first_word(words) else {
         return Ok(None);
@@ -90,7 +95,8 @@ fn import_of(alloc: Global, words: &[String]) -> Result<Option<Tool>, AllocError
 /// The tool that the words ask for, by its name and what follows it: `None` where they are not in the grammar.
 #[tactic(auto, unfolding(crate::specs::Grammar::tool_of))]
 pub fn tool_of(alloc: Global, words: &[String]) -> Result<Option<Tool>, AllocError>
-    ensures { IfOk result (λ tool. tool ≡ tool_of (texts words.now)) }
+    ensures offered { IfOk result (λ tool. IfSome tool (λ given. is_offered given ≡ true)) }
+    ensures value { IfOk result (λ tool. tool ≡ tool_of (texts words.now)) }
 {
     let Some((word, rest)) = first_word(words) else {
         return Ok(None);

@@ -1,0 +1,95 @@
+-- What commands ask of the tree, the script and the clock, and what is printed of it.
+use Rattle.std.specs.Prelude.{◌≡◌, ◌⊎◌, ℕ, ℤ, true, List, codes, Option, None, Some, Ok, Err}
+use Rattle.std.specs.Io.KnownBytes.{IsAtEnd}
+use Rattle.md_files.specs.Reports as files
+use Rattle.md_files.specs.Reports.{Shows, Imports, tells_files, tells_all}
+use Rattle.md_files.specs.Tables.{importers_text, attributes_text}
+use Rattle.md_script.specs.declared.script.Line.{Line}
+use Rattle.md_script.specs.declared.script.ScriptError.{ScriptError}
+use Rattle.md_script.specs.Scripts.{verdict}
+use Rattle.md_source.specs.Tree.{Content}
+use Rattle.md_live.specs.TimeForms.{out_of_range}
+use Rattle.md_words.specs.Grammar.{command_of}
+use Rattle.md_words.specs.declared.command.Command.{Command}
+use Rattle.md_words.specs.declared.command.Tool.{Tool}
+use Rattle.md_words.specs.declared.command.Tool.TheVariants as tool
+use Rattle.md_tool.specs.Commands.{IsLive}
+use Rattle.md_tool.specs.Outside.{Shown, Inputs, Outputs, IsRead, IsShown, Fails, ClockFails, TakesNothing, TakesWhole, TakesPart}
+use Rattle.md_tool.specs.Reports.{Report, plain, refusal, usage, refused, of_files, of_lines}
+use Rattle.md_tool.specs.declared.status.Status.{Status}
+use Rattle.md_tool.specs.declared.status.Status.TheVariants as status
+
+-- A tool on files asks the tree alone.
+pub record OfFiles (old new : Inputs) (Makes : files.Report → Type 0) (report : Report) : Type 0 where
+  pub made : files.Report
+  pub makes : Makes made
+  pub is : report ≡ of_files made
+  pub content : new.tree.told ≡ old.tree.told
+  pub script : new.script ≡ old.script
+  pub clock : new.clock ≡ old.clock
+
+-- What a script in bytes and the clock ask to be printed at an offset; the clock is read only where the script is accepted.
+pub data Answers (offset : ℤ) (bytes : List ℕ) (old new : Shown) : Report → Type 0 where
+  refuses : (e : ScriptError) → verdict bytes ≡ Err e → new ≡ old → Answers offset bytes old new (refused e)
+  unclocked : (lines : List Line) → verdict bytes ≡ Ok lines → ClockFails old new
+      → Answers offset bytes old new (refusal status.ReadFault (codes "clock could not be read"))
+  runs : (lines : List Line) (now : ℤ) → verdict bytes ≡ Ok lines → IsShown old new now → Answers offset bytes old new (of_lines now offset lines)
+
+-- What the script and the clock ask to be printed at an offset; the clock is read only after the script.
+pub data Lives (offset : ℤ) (old new : Inputs) : Report → Type 0 where
+  unread : Fails old.script new.script → new.clock ≡ old.clock → new.tree ≡ old.tree
+      → Lives offset old new (refusal status.ReadFault (codes "script could not be read"))
+  read : (bytes : List ℕ) (report : Report) → IsRead old.script new.script bytes → Answers offset bytes old.clock new.clock report → new.tree ≡ old.tree
+      → Lives offset old new report
+
+-- what a tool asks at an offset, and what is printed of it
+abbrev pub ToolAsks : ℤ → Inputs → Inputs → Tool → Report → Type 0
+ToolAsks offset old new (tool.Show raw marker names files) report = OfFiles old new (Shows old.tree.told old.tree.faults new.tree.faults offset raw marker names files) report
+ToolAsks offset old new (tool.Import files) report = OfFiles old new (Imports old.tree.told old.tree.faults new.tree.faults offset files) report
+ToolAsks offset old new tool.Importers report = (new ≡ old) × (report ≡ plain importers_text)
+ToolAsks offset old new tool.Attributes report = (new ≡ old) × (report ≡ plain attributes_text)
+ToolAsks offset old new (tool.Live None) report = Lives offset old new report
+ToolAsks offset old new _ report = ⊥
+
+-- what a command asks, and what is printed of it
+abbrev pub CommandAsks : Command → Inputs → Inputs → Report → Type 0
+CommandAsks command old new report = ToolAsks command.offset old new command.what report
+
+-- what the words ask, and what is printed of it; nothing is asked where they are not understood
+pub data WordsAsk (words : List (List ℕ)) (old new : Inputs) : Report → Type 0 where
+  misread : command_of words ≡ None → new ≡ old → WordsAsk words old new usage
+  commands : (command : Command) (report : Report) → command_of words ≡ Some command → CommandAsks command old new report → WordsAsk words old new report
+
+-- How a run ends: the texts that were asked stand whole on err and then on out; or a put failed, and nothing more was put; or memory ran out, and nothing was put.
+pub data Ends (Asks : Report → Type 0) (before after : Outputs) : Status → Type 0 where
+  printed : (report : Report) → Asks report → TakesWhole before.err after.err report.err → TakesWhole before.out after.out report.out
+      → Ends Asks before after report.status
+  stopped_in_err : (report : Report) → Asks report → TakesPart before.err after.err report.err → TakesNothing before.out after.out
+      → Ends Asks before after status.WriteFault
+  stopped_in_out : (report : Report) → Asks report → TakesWhole before.err after.err report.err → TakesPart before.out after.out report.out
+      → Ends Asks before after status.WriteFault
+  no_memory : TakesNothing before.err after.err → TakesNothing before.out after.out → Ends Asks before after status.Memory
+
+-- the script is refused
+abbrev pub IsRefused : List ℕ → Type 0
+IsRefused bytes = (error : ScriptError) × (verdict bytes ≡ Err error)
+
+-- the script is read as lines, of which one has a form of time that is out of range now at the offset
+abbrev pub HasFormOut : ℤ → ℤ → List ℕ → Type 0
+HasFormOut now offset bytes = (lines : List Line) × (out : ℕ × ℕ) × (verdict bytes ≡ Ok lines) × (out_of_range now offset lines ≡ Some out)
+
+-- the script is read as lines, with each form of time in range now at the offset
+abbrev pub IsAccepted : ℤ → ℤ → List ℕ → Type 0
+IsAccepted now offset bytes = (lines : List Line) × (verdict bytes ≡ Ok lines) × (out_of_range now offset lines ≡ None)
+
+-- what a tool needs is told and in order: the files and folders that it names, or a script that is accepted now
+abbrev pub IsReady : ℤ → Inputs → Tool → Type 0
+IsReady offset inputs (tool.Live None) =
+    (bytes : List ℕ) × (now : ℤ) × (inputs.script.told ≡ Some bytes) × (inputs.clock.told ≡ Some now) × IsAccepted now offset bytes
+IsReady offset inputs (tool.Show raw marker names files) = (content : Content) × (inputs.tree.told ≡ Some content) × (tells_files content files ≡ true)
+IsReady offset inputs (tool.Import files) = (content : Content) × (inputs.tree.told ≡ Some content) × (tells_all content files ≡ true)
+IsReady offset inputs _ = Unit {0}
+
+-- memory ran out; or all was printed, and the script of `live` was read to its end
+abbrev pub IsComplete : Command → Inputs → Status → Type 0
+IsComplete command after answer = (answer ≡ status.Memory) ⊎ ((answer ≡ status.Ok) × (IsLive command → IsAtEnd after.script.told))
