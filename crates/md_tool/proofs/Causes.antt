@@ -1,21 +1,30 @@
--- The cause of each status.
-use Rattle.std.proofs.Common.{◌≡◌, ◌⊎◌, inl, inr, ℕ, ℤ, ◌+◌, ◌<◌, ◌≤◌, List, length, take, refl, sym, ◌∙◌, ap, Option, Some, None, IfSome, Ok, Err, arith}
+-- What a status tells, for each way in which a command asks.
+use Rattle.std.proofs.Common.{◌≡◌, ◌⊎◌, inl, inr, Bool, true, false, ℕ, ℤ, ◌+◌, ◌<◌, ◌≤◌, List, length, take, refl, sym, ◌∙◌, ap, Option, Some, None, IfSome, Ok, Err, arith}
+use Rattle.std.specs.Io.KnownBytes.{IsAtEnd}
 use Rattle.std.proofs.lemmas.List.{take_all, length-take-le}
 use Rattle.std.proofs.lemmas.Bool.Decides.{leb_tells}
+use Rattle.md_files.specs.Reports.{EndHasCause}
+use Rattle.md_files.specs.declared.report.End.{End}
+use Rattle.md_files.specs.declared.report.End.TheVariants as ended
+use Rattle.md_live.specs.TimeForms.{out_of_range}
 use Rattle.md_script.specs.declared.read.TheConstants.{MOST_BYTES}
 use Rattle.md_script.specs.declared.script.Line.{Line}
 use Rattle.md_script.specs.declared.script.ScriptError.{ScriptError}
 use Rattle.md_script.specs.declared.script.ScriptError.TheVariants as error
 use Rattle.md_script.specs.Scripts.{verdict}
 use Rattle.md_script.proofs.Verdicts.{verdict-long, accepted_lem}
-use Rattle.md_tool.specs.TimeForms.{out_of_range}
-use Rattle.md_tool.specs.Outside.{Shown, Inputs, Outputs, IsRead, Fails, ClockFails}
-use Rattle.md_tool.specs.Reports.{Report, IsLive, Answers, Asks, Ends, IsAccepted, IsRefused, HasFormOut, IsComplete, refused, report_by}
-use Rattle.md_tool.specs.Reports.Answers.{refuses, unclocked, runs}
-use Rattle.md_tool.specs.Reports.Asks.{usage, unread, read}
-use Rattle.md_tool.specs.Reports.Ends.{printed, stopped_in_err, stopped_in_out, no_memory}
-use Rattle.md_tool.specs.declared.top.Status.{Status}
-use Rattle.md_tool.specs.declared.top.Status.TheVariants as status
+use Rattle.md_source.specs.Causes.{Rose}
+use Rattle.md_source.specs.Tree.{Content}
+use Rattle.md_words.specs.declared.command.Tool.{Tool}
+use Rattle.md_words.specs.declared.command.Tool.TheVariants as tool
+use Rattle.md_tool.specs.Outside.{Shown, Inputs, IsRead, Fails, ClockFails, TreeFails}
+use Rattle.md_tool.specs.Reports.{Report, refused, lines_by, status_of}
+use Rattle.md_tool.specs.Asking.{Answers, Lives}
+use Rattle.md_tool.specs.Asking.Answers.{refuses, unclocked, runs}
+use Rattle.md_tool.specs.Asking.Lives.{unread, read}
+use Rattle.md_tool.specs.Causes.{Tells, TellsFirst, InputFails, IsReady, IsWhole, IsLive, IsAccepted, IsRefused, HasFormOut, tells_named}
+use Rattle.md_tool.specs.declared.status.Status.{Status}
+use Rattle.md_tool.specs.declared.status.Status.TheVariants as status
 
 -- one byte past the most that a script has tells as much as all of it
 verdict_front : (left : List ℕ) → verdict (take (MOST_BYTES + 1) left) ≡ verdict left
@@ -44,6 +53,10 @@ told_moment : (o : Option ℤ) (now moment : ℤ) → o ≡ Some moment → IfSo
 told_moment None now moment e h = cc
 told_moment (Some m) now moment e h = h ∙ cc (e)
 
+if_some : {A : Type 0} (o : Option A) (P : A → Type 0) → ((x : A) → o ≡ Some x → P x) → IfSome o P
+if_some None P f = tt
+if_some (Some x) P f = f x refl
+
 -- what refuses a script has no other status than these
 refused_status : (P : Status → Type 0) → P status.Script → P status.Memory → (e : ScriptError) → P (refused e).status
 refused_status P script memory error.TooLong = script
@@ -51,59 +64,44 @@ refused_status P script memory error.TooManyLines = script
 refused_status P script memory (error.BadLine number) = script
 refused_status P script memory error.Memory = memory
 
-report_status : (P : Status → Type 0) → P status.Ok → P status.Expression → (now : ℤ) (lines : List Line) (o : Option (ℕ × ℕ)) → P (report_by now lines o).status
-report_status P ok out now lines None = ok
-report_status P ok out now lines (Some x) = out
+lines_status : (P : Status → Type 0) → P status.Ok → P status.Expression → (now offset : ℤ) (lines : List Line) (o : Option (ℕ × ℕ)) → P (lines_by now offset lines o).status
+lines_status P ok form now offset lines None = ok
+lines_status P ok form now offset lines (Some x) = form
 
-form_out : (now : ℤ) (lines : List Line) (o : Option (ℕ × ℕ)) → (report_by now lines o).status ≡ status.Expression → (x : ℕ × ℕ) × (o ≡ Some x)
-form_out now lines None is = cc
-form_out now lines (Some x) is = (x, refl)
+form_out : (now offset : ℤ) (lines : List Line) (o : Option (ℕ × ℕ)) → (lines_by now offset lines o).status ≡ status.Expression → (x : ℕ × ℕ) × (o ≡ Some x)
+form_out now offset lines None is = cc
+form_out now offset lines (Some x) is = (x, refl)
 
-abbrev Usage : Status → Type 0
-Usage answer = answer ≡ status.Usage → ⊥
+abbrev IsNot : Status → Status → Type 0
+IsNot other answer = answer ≡ other → ⊥
 
-abbrev Fault : Status → Type 0
-Fault answer = answer ≡ status.ReadFault → ⊥
+module _ (offset : ℤ) (bytes : List ℕ) (old new : Shown) where
+  -- an answer has none of the statuses that are no script's, no form's, no fault's and not Ok
+  not_other : (other : Status) → IsNot other status.Script → IsNot other status.Memory → IsNot other status.ReadFault → IsNot other status.Ok → IsNot other status.Expression
+      → (r : Report) → Answers offset bytes old new r → IsNot other r.status
+  not_other other s m f o x _ (refuses e v same) = refused_status (IsNot other) s m e
+  not_other other s m f o x _ (unclocked lines v rose) = f
+  not_other other s m f o x _ (runs lines now v shown) = lines_status (IsNot other) o x now offset lines (out_of_range now offset lines)
 
-abbrev Write : Status → Type 0
-Write answer = answer ≡ status.WriteFault → ⊥
-
-abbrev Form : Status → Type 0
-Form answer = answer ≡ status.Expression → ⊥
-
-abbrev Bad : Status → Type 0
-Bad answer = answer ≡ status.Script → ⊥
-
-module _ (bytes : List ℕ) (old new : Shown) where
-  not_usage : (r : Report) → Answers bytes old new r → Usage r.status
-  not_usage _ (refuses e v same) = refused_status Usage (λ x. cc) (λ x. cc) e
-  not_usage _ (unclocked lines v rose) = λ x. cc
-  not_usage _ (runs lines now v shown) = report_status Usage (λ x. cc) (λ x. cc) now lines (out_of_range now lines)
-
-  not_write : (r : Report) → Answers bytes old new r → Write r.status
-  not_write _ (refuses e v same) = refused_status Write (λ x. cc) (λ x. cc) e
-  not_write _ (unclocked lines v rose) = λ x. cc
-  not_write _ (runs lines now v shown) = report_status Write (λ x. cc) (λ x. cc) now lines (out_of_range now lines)
-
-  fault_answered : (r : Report) → Answers bytes old new r → r.status ≡ status.ReadFault → ClockFails old new
-  fault_answered _ (refuses e v same) is = absurd (refused_status Fault (λ x. cc) (λ x. cc) e is)
+  fault_answered : (r : Report) → Answers offset bytes old new r → r.status ≡ status.ReadFault → ClockFails old new
+  fault_answered _ (refuses e v same) is = absurd (refused_status (IsNot status.ReadFault) (λ x. cc) (λ x. cc) e is)
   fault_answered _ (unclocked lines v rose) is = rose
-  fault_answered _ (runs lines now v shown) is = absurd (report_status Fault (λ x. cc) (λ x. cc) now lines (out_of_range now lines) is)
+  fault_answered _ (runs lines now v shown) is = absurd (lines_status (IsNot status.ReadFault) (λ x. cc) (λ x. cc) now offset lines (out_of_range now offset lines) is)
 
-  script_answered : (r : Report) → Answers bytes old new r → r.status ≡ status.Script → IsRefused bytes
+  script_answered : (r : Report) → Answers offset bytes old new r → r.status ≡ status.Script → IsRefused bytes
   script_answered _ (refuses e v same) is = (e, v)
   script_answered _ (unclocked lines v rose) is = cc
-  script_answered _ (runs lines now v shown) is = absurd (report_status Bad (λ x. cc) (λ x. cc) now lines (out_of_range now lines) is)
+  script_answered _ (runs lines now v shown) is = absurd (lines_status (IsNot status.Script) (λ x. cc) (λ x. cc) now offset lines (out_of_range now offset lines) is)
 
-  form_answered : (moment : ℤ) → old.told ≡ Some moment → (r : Report) → Answers bytes old new r → r.status ≡ status.Expression → HasFormOut moment bytes
-  form_answered moment shows _ (refuses e v same) is = absurd (refused_status Form (λ x. cc) (λ x. cc) e is)
+  form_answered : (moment : ℤ) → old.told ≡ Some moment → (r : Report) → Answers offset bytes old new r → r.status ≡ status.Expression → HasFormOut moment offset bytes
+  form_answered moment shows _ (refuses e v same) is = absurd (refused_status (IsNot status.Expression) (λ x. cc) (λ x. cc) e is)
   form_answered moment shows _ (unclocked lines v rose) is = cc
   form_answered moment shows _ (runs lines now v shown) is =
-      let out = form_out now lines (out_of_range now lines) is in
+      let found = form_out now offset lines (out_of_range now offset lines) is in
       let same = told_moment old.told now moment shows shown.told in
-      (lines, out.0, v, ap (λ m. out_of_range m lines) (sym same) ∙ out.1)
+      (lines, found.0, v, ap (λ m. out_of_range m offset lines) (sym same) ∙ found.1)
 
-  accepted_answered : (moment : ℤ) → old.told ≡ Some moment → IsAccepted moment bytes → ¬ (ClockFails old new) → (r : Report) → Answers bytes old new r
+  accepted_answered : (moment : ℤ) → old.told ≡ Some moment → IsAccepted moment offset bytes → ¬ (ClockFails old new) → (r : Report) → Answers offset bytes old new r
       → (r.status ≡ status.Ok) × (length bytes ≤ MOST_BYTES)
   accepted_answered moment shows accepted k _ (refuses e v same) = let wrong : Ok accepted.0 ≡ Err e = sym accepted.1 ∙ v in cc (wrong)
   accepted_answered moment shows accepted k _ (unclocked lines v rose) = absurd (k rose)
@@ -111,107 +109,105 @@ module _ (bytes : List ℕ) (old new : Shown) where
       let same : Ok lines ≡ Ok accepted.0 = sym v ∙ accepted.1 in
       let lines_same : lines ≡ accepted.0 = cc (same) in
       let at = told_moment old.told now moment shows shown.told in
-      let none : out_of_range now lines ≡ None = (λ i. out_of_range (at i) (lines_same i)) ∙ accepted.2 in
+      let none : out_of_range now offset lines ≡ None = (λ i. out_of_range (at i) offset (lines_same i)) ∙ accepted.2 in
       let short = ((accepted_lem bytes lines).0 v).0 in
-      (ap (λ o. (report_by now lines o).status) none, short.bytes)
+      (ap (λ o. (lines_by now offset lines o).status) none, short.bytes)
 
-module _ (words : List (List ℕ)) (old new : Inputs) where
-  usage_asked : (r : Report) → Asks words old new r → r.status ≡ status.Usage → ¬ (IsLive words)
-  usage_asked _ (usage none same) is = none
-  usage_asked _ (unread live rose same) is = cc
-  usage_asked _ (read bytes r live read' answers) is = absurd (not_usage bytes old.clock new.clock r answers is)
+module _ (offset : ℤ) (old new : Inputs) where
+  not_this : (other : Status) → IsNot other status.Script → IsNot other status.Memory → IsNot other status.ReadFault → IsNot other status.Ok → IsNot other status.Expression
+      → (r : Report) → Lives offset old new r → IsNot other r.status
+  not_this other s m f o x _ (unread rose clock tree) = f
+  not_this other s m f o x _ (read bytes r read' answers tree) = not_other offset bytes old.clock new.clock other s m f o x r answers
 
-  fault_asked : (r : Report) → Asks words old new r → r.status ≡ status.ReadFault → Fails old.script new.script ⊎ ClockFails old.clock new.clock
-  fault_asked _ (usage none same) is = cc
-  fault_asked _ (unread live rose same) is = inl rose
-  fault_asked _ (read bytes r live read' answers) is = inr (fault_answered bytes old.clock new.clock r answers is)
+  fault_live : (r : Report) → Lives offset old new r → r.status ≡ status.ReadFault → InputFails old new
+  fault_live _ (unread rose clock tree) is = inr (inl rose)
+  fault_live _ (read bytes r read' answers tree) is = inr (inr (fault_answered offset bytes old.clock new.clock r answers is))
 
-  write_asked : (r : Report) → Asks words old new r → r.status ≡ status.WriteFault → ⊥
-  write_asked _ (usage none same) is = cc
-  write_asked _ (unread live rose same) is = cc
-  write_asked _ (read bytes r live read' answers) is = not_write bytes old.clock new.clock r answers is
+  script_live : (left : List ℕ) → old.script.told ≡ Some left → (r : Report) → Lives offset old new r → r.status ≡ status.Script → IsRefused left
+  script_live left told _ (unread rose clock tree) is = cc
+  script_live left told _ (read bytes r read' answers tree) is =
+      let found = script_answered offset bytes old.clock new.clock r answers is in
+      (found.0, sym (told_verdict old new bytes left read' told) ∙ found.1)
 
-  script_asked : (left : List ℕ) → old.script.told ≡ Some left → (r : Report) → Asks words old new r → r.status ≡ status.Script → IsRefused left
-  script_asked left told _ (usage none same) is = cc
-  script_asked left told _ (unread live rose same) is = cc
-  script_asked left told _ (read bytes r live read' answers) is =
-      let refused' = script_answered bytes old.clock new.clock r answers is in
-      (refused'.0, sym (told_verdict old new bytes left read' told) ∙ refused'.1)
+  form_live : (left : List ℕ) → old.script.told ≡ Some left → (moment : ℤ) → old.clock.told ≡ Some moment → (r : Report) → Lives offset old new r
+      → r.status ≡ status.Expression → HasFormOut moment offset left
+  form_live left told moment shows _ (unread rose clock tree) is = cc
+  form_live left told moment shows _ (read bytes r read' answers tree) is =
+      let found = form_answered offset bytes old.clock new.clock moment shows r answers is in
+      (found.0, found.1, sym (told_verdict old new bytes left read' told) ∙ found.2, found.3)
 
-  form_asked : (left : List ℕ) → old.script.told ≡ Some left → (moment : ℤ) → old.clock.told ≡ Some moment → (r : Report) → Asks words old new r → r.status ≡ status.Expression → HasFormOut moment left
-  form_asked left told moment shows _ (usage none same) is = cc
-  form_asked left told moment shows _ (unread live rose same) is = cc
-  form_asked left told moment shows _ (read bytes r live read' answers) is =
-      let out = form_answered bytes old.clock new.clock moment shows r answers is in
-      (out.0, out.1, sym (told_verdict old new bytes left read' told) ∙ out.2, out.3)
+  whole_live : IsReady offset old (tool.Live None) → ¬ (InputFails old new) → (r : Report) → Lives offset old new r → IsWhole (tool.Live None) new r.status
+  whole_live ready none _ (unread rose clock tree) = absurd (none (inr (inl rose)))
+  whole_live ready none _ (read bytes r read' answers tree) =
+      let same = told_verdict old new bytes ready.0 read' ready.2 in
+      let accepted = ready.4 in
+      let ok = accepted_answered offset bytes old.clock new.clock ready.1 ready.3 (accepted.0, same ∙ accepted.1, accepted.2) (λ rose. none (inr (inr rose))) r answers in
+      (ok.0, λ live. read'.end ok.1)
 
-  accepted_asked : (left : List ℕ) → old.script.told ≡ Some left → (moment : ℤ) → old.clock.told ≡ Some moment → IsLive words → IsAccepted moment left
-      → ¬ (Fails old.script new.script) → ¬ (ClockFails old.clock new.clock) → (r : Report) → Asks words old new r → IsComplete new.script.told r.status
-  accepted_asked left told moment shows live accepted s k _ (usage other same) = absurd (other live)
-  accepted_asked left told moment shows live accepted s k _ (unread live' rose same) = absurd (s rose)
-  accepted_asked left told moment shows live accepted s k _ (read bytes r live' read' answers) =
-      let same = told_verdict old new bytes left read' told in
-      let ok = accepted_answered bytes old.clock new.clock moment shows (accepted.0, same ∙ accepted.1, accepted.2) k r answers in
-      inr (ok.0, read'.end ok.1)
+  pub live_tells : (r : Report) → Lives offset old new r → TellsFirst offset (tool.Live None) old new r.status
+  live_tells r lives =
+      (record {
+        usage = not_this status.Usage (λ x. cc) (λ x. cc) (λ x. cc) (λ x. cc) (λ x. cc) r lives;
+        live = λ is. refl;
+        expression = λ is. if_some old.script.told (λ left. IfSome old.clock.told (λ moment. HasFormOut moment offset left))
+            (λ left told. if_some old.clock.told (λ moment. HasFormOut moment offset left) (λ moment shows. form_live left told moment shows r lives is));
+        read_fault = fault_live r lives;
+        script = λ is. if_some old.script.told IsRefused (λ left told. script_live left told r lives is);
+        absent = λ is. absurd (not_this status.Absent (λ x. cc) (λ x. cc) (λ x. cc) (λ x. cc) (λ x. cc) r lives is);
+      },
+      not_this status.WriteFault (λ x. cc) (λ x. cc) (λ x. cc) (λ x. cc) (λ x. cc) r lives,
+      λ ready none. whole_live ready none r lives)
 
-  module _ (before after : Outputs) where
-    pub usage_cause : (answer : Status) → Ends words old new before after answer → answer ≡ status.Usage → ¬ (IsLive words)
-    usage_cause _ (printed r asks e o) is = usage_asked r asks is
-    usage_cause _ (stopped_in_err r asks e o) is = cc
-    usage_cause _ (stopped_in_out r asks e o) is = cc
-    usage_cause _ (no_memory e o) is = cc
+-- A tool on files tells by how its askings ended.
+module _ (offset : ℤ) (what : Tool) (old new : Inputs) where
+  -- what it names is told to be there
+  abbrev IsNamed : Type 0
+  IsNamed = (content : Content) × (old.tree.told ≡ Some content) × (tells_named content what ≡ true)
 
-    pub fault_cause : (answer : Status) → Ends words old new before after answer → answer ≡ status.ReadFault → Fails old.script new.script ⊎ ClockFails old.clock new.clock
-    fault_cause _ (printed r asks e o) is = fault_asked r asks is
-    fault_cause _ (stopped_in_err r asks e o) is = cc
-    fault_cause _ (stopped_in_out r asks e o) is = cc
-    fault_cause _ (no_memory e o) is = cc
+  told_ok : (end : End) (o : Option Content) (content : Content) → o ≡ Some content → tells_named content what ≡ true
+      → IfSome o (λ told. tells_named told what ≡ true → ¬ (TreeFails old.tree new.tree) → end ≡ ended.Ok) → ¬ (TreeFails old.tree new.tree) → end ≡ ended.Ok
+  told_ok end None content is named h none = cc
+  told_ok end (Some told) content is named h none = h (let same : told ≡ content = cc (is) in ap (λ c. tells_named c what) same ∙ named) none
 
-    pub write_cause : (answer : Status) → Ends words old new before after answer → answer ≡ status.WriteFault → Fails before.err after.err ⊎ Fails before.out after.out
-    write_cause _ (printed r asks e o) is = absurd (write_asked r asks is)
-    write_cause _ (stopped_in_err r asks e o) is = inl e.failed
-    write_cause _ (stopped_in_out r asks e o) is = inr o.failed
-    write_cause _ (no_memory e o) is = cc
+  no_tool : (end : End) (other : Status) → IsNot other status.Ok → IsNot other status.ReadFault → IsNot other status.Absent → IsNot other (status_of end)
+  no_tool ended.Ok other o f a = o
+  no_tool ended.Failed other o f a = f
+  no_tool ended.Absent other o f a = a
 
-    script_at : (left : List ℕ) → old.script.told ≡ Some left → (answer : Status) → Ends words old new before after answer → answer ≡ status.Script → IsRefused left
-    script_at left told _ (printed r asks e o) is = script_asked left told r asks is
-    script_at left told _ (stopped_in_err r asks e o) is = cc
-    script_at left told _ (stopped_in_out r asks e o) is = cc
-    script_at left told _ (no_memory e o) is = cc
+  fault_end : (end : End) → EndHasCause old.tree.faults new.tree.faults end → status_of end ≡ status.ReadFault → InputFails old new
+  fault_end ended.Ok cause is = cc
+  fault_end ended.Failed cause is = inl cause.1
+  fault_end ended.Absent cause is = cc
 
-    form_at : (left : List ℕ) → old.script.told ≡ Some left → (moment : ℤ) → old.clock.told ≡ Some moment → (answer : Status) → Ends words old new before after answer → answer ≡ status.Expression → HasFormOut moment left
-    form_at left told moment shows _ (printed r asks e o) is = form_asked left told moment shows r asks is
-    form_at left told moment shows _ (stopped_in_err r asks e o) is = cc
-    form_at left told moment shows _ (stopped_in_out r asks e o) is = cc
-    form_at left told moment shows _ (no_memory e o) is = cc
+  absent_end : (end : End) → status_of end ≡ status.Absent → end ≡ ended.Absent
+  absent_end ended.Ok is = cc
+  absent_end ended.Failed is = cc
+  absent_end ended.Absent is = refl
 
-    complete_at : (left : List ℕ) → old.script.told ≡ Some left → (moment : ℤ) → old.clock.told ≡ Some moment → (answer : Status) → Ends words old new before after answer
-        → IsLive words → IsAccepted moment left → ¬ (Fails old.script new.script) → ¬ (ClockFails old.clock new.clock) → ¬ (Fails before.err after.err) → ¬ (Fails before.out after.out)
-        → IsComplete new.script.told answer
-    complete_at left told moment shows _ (printed r asks e o) live accepted s k f g = accepted_asked left told moment shows live accepted s k r asks
-    complete_at left told moment shows _ (stopped_in_err r asks e o) live accepted s k f g = absurd (f e.failed)
-    complete_at left told moment shows _ (stopped_in_out r asks e o) live accepted s k f g = absurd (g o.failed)
-    complete_at left told moment shows _ (no_memory e o) live accepted s k f g = inl refl
+  if_absent : (end : End) (o : Option Content) → IfSome o (λ content. end ≡ ended.Absent → tells_named content what ≡ false) → end ≡ ended.Absent
+      → IfSome o (λ content. tells_named content what ≡ false)
+  if_absent end None h is = tt
+  if_absent end (Some content) h is = h is
 
-if_some : {A : Type 0} (o : Option A) (P : A → Type 0) → ((x : A) → o ≡ Some x → P x) → IfSome o P
-if_some None P f = tt
-if_some (Some x) P f = f x refl
+  pub files_tell : (IsReady offset old what → IsNamed) → ¬ (IsLive what) → (end : End) → EndHasCause old.tree.faults new.tree.faults end
+      → IfSome old.tree.told (λ content. end ≡ ended.Absent → tells_named content what ≡ false)
+      → IfSome old.tree.told (λ content. tells_named content what ≡ true → ¬ (TreeFails old.tree new.tree) → end ≡ ended.Ok)
+      → TellsFirst offset what old new (status_of end)
+  files_tell names other end cause absent ok =
+      (record {
+        usage = no_tool end status.Usage (λ x. cc) (λ x. cc) (λ x. cc);
+        live = λ is. absurd (no_tool end status.Expression (λ x. cc) (λ x. cc) (λ x. cc) is);
+        expression = λ is. absurd (no_tool end status.Expression (λ x. cc) (λ x. cc) (λ x. cc) is);
+        read_fault = fault_end end cause;
+        script = λ is. absurd (no_tool end status.Script (λ x. cc) (λ x. cc) (λ x. cc) is);
+        absent = λ is. if_absent end old.tree.told absent (absent_end end is);
+      },
+      no_tool end status.WriteFault (λ x. cc) (λ x. cc) (λ x. cc),
+      λ ready none. (ap status_of (let named = names ready in told_ok end old.tree.told named.0 named.1 named.2 ok (λ rose. none (inl rose))), λ live. absurd (other live)))
 
-module _ (words : List (List ℕ)) (old new : Inputs) (before after : Outputs) (answer : Status) (end : Ends words old new before after answer) where
-  pub script_cause : answer ≡ status.Script → IfSome old.script.told IsRefused
-  script_cause is = if_some old.script.told IsRefused (λ left told. script_at words old new before after left told answer end is)
-
-  pub form_cause : answer ≡ status.Expression → IfSome old.script.told (λ left. IfSome old.clock.told (λ moment. HasFormOut moment left))
-  form_cause is =
-      if_some old.script.told (λ left. IfSome old.clock.told (λ moment. HasFormOut moment left))
-      (λ left told. if_some old.clock.told (λ moment. HasFormOut moment left) (λ moment shows. form_at words old new before after left told moment shows answer end is))
-
-  abbrev Complete : List ℕ → ℤ → Type 0
-  Complete left moment =
-      IsLive words → IsAccepted moment left → ¬ (Fails old.script new.script) → ¬ (ClockFails old.clock new.clock) → ¬ (Fails before.err after.err) → ¬ (Fails before.out after.out)
-      → IsComplete new.script.told answer
-
-  pub complete_cause : IfSome old.script.told (λ left. IfSome old.clock.told (λ moment. Complete left moment))
-  complete_cause =
-      if_some old.script.told (λ left. IfSome old.clock.told (λ moment. Complete left moment))
-      (λ left told. if_some old.clock.told (λ moment. Complete left moment) (λ moment shows. complete_at words old new before after left told moment shows answer end))
+-- A list that is asked of nothing tells that all is printed.
+pub plain_tells : (offset : ℤ) (what : Tool) (old new : Inputs) → ¬ (IsLive what) → TellsFirst offset what old new status.Ok
+plain_tells offset what old new other =
+    (record { usage = λ x. cc; live = λ x. cc; expression = λ x. cc; read_fault = λ x. cc; script = λ x. cc; absent = λ x. cc },
+    λ x. cc,
+    λ ready none. (refl, λ live. absurd (other live)))

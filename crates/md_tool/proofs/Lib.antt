@@ -1,5 +1,3 @@
 mod Causes
 mod Ending
 mod Scripts
-mod Telling
-mod Words

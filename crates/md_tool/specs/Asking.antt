@@ -1,19 +1,15 @@
 -- What commands ask of the tree, the script and the clock, and what is printed of it.
-use Rattle.std.specs.Prelude.{◌≡◌, ◌⊎◌, ℕ, ℤ, true, List, codes, Option, None, Some, Ok, Err}
-use Rattle.std.specs.Io.KnownBytes.{IsAtEnd}
+use Rattle.std.specs.Prelude.{◌≡◌, ℕ, ℤ, List, codes, Option, None, Some, Ok, Err}
 use Rattle.md_files.specs.Reports as files
-use Rattle.md_files.specs.Reports.{Shows, Imports, tells_files, tells_all}
+use Rattle.md_files.specs.Reports.{Shows, Imports}
 use Rattle.md_files.specs.Tables.{importers_text, attributes_text}
 use Rattle.md_script.specs.declared.script.Line.{Line}
 use Rattle.md_script.specs.declared.script.ScriptError.{ScriptError}
 use Rattle.md_script.specs.Scripts.{verdict}
-use Rattle.md_source.specs.Tree.{Content}
-use Rattle.md_live.specs.TimeForms.{out_of_range}
 use Rattle.md_words.specs.Grammar.{command_of}
 use Rattle.md_words.specs.declared.command.Command.{Command}
 use Rattle.md_words.specs.declared.command.Tool.{Tool}
 use Rattle.md_words.specs.declared.command.Tool.TheVariants as tool
-use Rattle.md_tool.specs.Commands.{IsLive}
 use Rattle.md_tool.specs.Outside.{Shown, Inputs, Outputs, IsRead, IsShown, Fails, ClockFails, TakesNothing, TakesWhole, TakesPart}
 use Rattle.md_tool.specs.Reports.{Report, plain, refusal, usage, refused, of_files, of_lines}
 use Rattle.md_tool.specs.declared.status.Status.{Status}
@@ -69,27 +65,3 @@ pub data Ends (Asks : Report → Type 0) (before after : Outputs) : Status → T
   stopped_in_out : (report : Report) → Asks report → TakesWhole before.err after.err report.err → TakesPart before.out after.out report.out
       → Ends Asks before after status.WriteFault
   no_memory : TakesNothing before.err after.err → TakesNothing before.out after.out → Ends Asks before after status.Memory
-
--- the script is refused
-abbrev pub IsRefused : List ℕ → Type 0
-IsRefused bytes = (error : ScriptError) × (verdict bytes ≡ Err error)
-
--- the script is read as lines, of which one has a form of time that is out of range now at the offset
-abbrev pub HasFormOut : ℤ → ℤ → List ℕ → Type 0
-HasFormOut now offset bytes = (lines : List Line) × (out : ℕ × ℕ) × (verdict bytes ≡ Ok lines) × (out_of_range now offset lines ≡ Some out)
-
--- the script is read as lines, with each form of time in range now at the offset
-abbrev pub IsAccepted : ℤ → ℤ → List ℕ → Type 0
-IsAccepted now offset bytes = (lines : List Line) × (verdict bytes ≡ Ok lines) × (out_of_range now offset lines ≡ None)
-
--- what a tool needs is told and in order: the files and folders that it names, or a script that is accepted now
-abbrev pub IsReady : ℤ → Inputs → Tool → Type 0
-IsReady offset inputs (tool.Live None) =
-    (bytes : List ℕ) × (now : ℤ) × (inputs.script.told ≡ Some bytes) × (inputs.clock.told ≡ Some now) × IsAccepted now offset bytes
-IsReady offset inputs (tool.Show raw marker names files) = (content : Content) × (inputs.tree.told ≡ Some content) × (tells_files content files ≡ true)
-IsReady offset inputs (tool.Import files) = (content : Content) × (inputs.tree.told ≡ Some content) × (tells_all content files ≡ true)
-IsReady offset inputs _ = Unit {0}
-
--- memory ran out; or all was printed, and the script of `live` was read to its end
-abbrev pub IsComplete : Command → Inputs → Status → Type 0
-IsComplete command after answer = (answer ≡ status.Memory) ⊎ ((answer ≡ status.Ok) × (IsLive command → IsAtEnd after.script.told))

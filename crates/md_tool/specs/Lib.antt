@@ -1,5 +1,5 @@
 pub mod Outside
-pub mod Commands
 pub mod Reports
 pub mod Asking
+pub mod Causes
 pub mod Codes

@@ -1,5 +1,5 @@
 -- What is told of the objects of the outside, before a run or after it.
-use Rattle.std.specs.Prelude.{◌≡◌, ◌⊎◌, ℕ, ◌+◌, ◌≤◌, ℤ, List, length, take, IfSome, Option}
+use Rattle.std.specs.Prelude.{◌≡◌, ℕ, ◌+◌, ◌≤◌, ℤ, List, length, take, IfSome, Option}
 use Rattle.std.specs.Io.KnownBytes.{Consumes, IsAtEnd}
 use Rattle.md_value.specs.Values.{IsMoment}
 use Rattle.md_source.specs.Causes.{Rose}
@@ -33,6 +33,20 @@ pub record Outputs : Type 0 where
   pub err : Bytes
   pub out : Bytes
 
+-- what is told of a tree, a script and a clock, each beside its count of faults
+abbrev pub inputs : Option Content → ℕ → Option (List ℕ) → ℕ → Option ℤ → ℕ → Inputs
+inputs content tree left script moment clock =
+    record {
+      tree = record { told = content; faults = tree };
+      script = record { told = left; faults = script };
+      clock = record { told = moment; faults = clock };
+    }
+
+-- and of the sinks for err and for out
+abbrev pub outputs : Option (List ℕ) → ℕ → Option (List ℕ) → ℕ → Outputs
+outputs err_taken err out_taken out =
+    record { err = record { told = err_taken; faults = err }; out = record { told = out_taken; faults = out } }
+
 -- The bytes were read from a source to its end, or to one byte past the most that a script has.
 pub record IsRead (old new : Bytes) (bytes : List ℕ) : Type 0 where
   pub taken : Consumes old.told new.told bytes
@@ -55,10 +69,6 @@ ClockFails old new = Rose old.faults new.faults
 
 abbrev pub TreeFails : Files → Files → Type 0
 TreeFails old new = Rose old.faults new.faults
-
--- some object failed
-abbrev pub InputFails : Inputs → Inputs → Type 0
-InputFails old new = TreeFails old.tree new.tree ⊎ (Fails old.script new.script ⊎ ClockFails old.clock new.clock)
 
 -- no byte was put
 abbrev pub TakesNothing : Bytes → Bytes → Type 0

@@ -1,10 +1,12 @@
 // The run of a script.
-ghost use Rattle.std.specs.Prelude.{◌≡◌, ◌≤◌, IsErr, IfOk, length, Some};
+ghost use Rattle.std.specs.Prelude.{◌≡◌, ◌≤◌, IsErr, IfOk, length, Some, None};
 ghost use Rattle.md_value.specs.Values.{IsMoment};
 ghost use Rattle.md_script.specs.declared.script.ScriptError.TheVariants.{BadLine, Memory};
 ghost use Rattle.md_tool.specs.Reports.{refused, lines_by, of_lines};
-ghost use Rattle.md_tool.specs.Outside.{Files};
+ghost use Rattle.md_words.specs.declared.command.Tool.TheVariants.{Live};
+ghost use Rattle.md_tool.specs.Outside.{Files, inputs};
 ghost use Rattle.md_tool.specs.Asking.{Answers, Lives};
+ghost use Rattle.md_tool.specs.Causes.{TellsFirst};
 
 use crate::Status;
 use crate::report::{Report, refusal};
@@ -94,10 +96,14 @@ pub(crate) fn live<S: Source, C: Clock>(
     script: &mut S,
     clock: &mut C,
 ) -> Result<Report, AllocError>
-    ensures { (tree : Files) → IfOk result (λ report. Lives offset
-        (record { tree = tree; script = record { told = S.left script.old; faults = S.faults script.old }; clock = record { told = C.moment clock.old; faults = C.faults clock.old } })
-        (record { tree = tree; script = record { told = S.left script.new; faults = S.faults script.new }; clock = record { told = C.moment clock.new; faults = C.faults clock.new } })
+    ensures asks { (tree : Files) → IfOk result (λ report. Lives offset
+        (inputs tree.told tree.faults (S.left script.old) (S.faults script.old) (C.moment clock.old) (C.faults clock.old))
+        (inputs tree.told tree.faults (S.left script.new) (S.faults script.new) (C.moment clock.new) (C.faults clock.new))
         report) }
+    ensures tells { (tree : Files) → IfOk result (λ report. TellsFirst offset (Live None)
+        (inputs tree.told tree.faults (S.left script.old) (S.faults script.old) (C.moment clock.old) (C.faults clock.old))
+        (inputs tree.told tree.faults (S.left script.new) (S.faults script.new) (C.moment clock.new) (C.faults clock.new))
+        report.status) }
 {
     match read_all(alloc, script, MOST_BYTES) {
         Ok(bytes) => {

@@ -1,8 +1,10 @@
 // What a command asks to be printed.
 ghost use Rattle.std.specs.Prelude.{◌≡◌, IfOk, true};
-ghost use Rattle.md_words.specs.Grammar.{is_run};
-ghost use Rattle.md_tool.specs.Outside.{Bytes, Shown};
+ghost use Rattle.md_words.specs.Grammar.{is_offered};
+ghost use Rattle.md_words.specs.declared.command.Tool.TheVariants.{Show, Import};
+ghost use Rattle.md_tool.specs.Outside.{Bytes, Shown, inputs};
 ghost use Rattle.md_tool.specs.Asking.{OfFiles, ToolAsks};
+ghost use Rattle.md_tool.specs.Causes.{TellsFirst};
 ghost use Rattle.md_files.specs.Reports.{Shows, Imports};
 
 use crate::live::live;
@@ -21,10 +23,14 @@ fn show<T: Tree>(
     names: &[Name],
     files: &[Path],
 ) -> Result<Report, AllocError>
-    ensures { (script : Bytes) (clock : Shown) → IfOk result (λ report. OfFiles
-        (record { tree = record { told = T.content tree.old; faults = T.faults tree.old }; script = script; clock = clock })
-        (record { tree = record { told = T.content tree.new; faults = T.faults tree.new }; script = script; clock = clock })
+    ensures asks { (script : Bytes) (clock : Shown) → IfOk result (λ report. OfFiles
+        (inputs (T.content tree.old) (T.faults tree.old) script.told script.faults clock.told clock.faults)
+        (inputs (T.content tree.new) (T.faults tree.new) script.told script.faults clock.told clock.faults)
         (Shows (T.content tree.old) (T.faults tree.old) (T.faults tree.new) offset raw marker.now names.now files.now) report) }
+    ensures tells { (script : Bytes) (clock : Shown) → IfOk result (λ report. TellsFirst offset (Show raw marker.now names.now files.now)
+        (inputs (T.content tree.old) (T.faults tree.old) script.told script.faults clock.told clock.faults)
+        (inputs (T.content tree.new) (T.faults tree.new) script.told script.faults clock.told clock.faults)
+        report.status) }
 {
     let made = md_files::show(alloc, tree, offset, raw, marker, names, files)?;
     Ok(of_files(made))
@@ -36,10 +42,14 @@ fn import<T: Tree>(
     tree: &mut T,
     files: &[Path],
 ) -> Result<Report, AllocError>
-    ensures { (script : Bytes) (clock : Shown) → IfOk result (λ report. OfFiles
-        (record { tree = record { told = T.content tree.old; faults = T.faults tree.old }; script = script; clock = clock })
-        (record { tree = record { told = T.content tree.new; faults = T.faults tree.new }; script = script; clock = clock })
+    ensures asks { (script : Bytes) (clock : Shown) → IfOk result (λ report. OfFiles
+        (inputs (T.content tree.old) (T.faults tree.old) script.told script.faults clock.told clock.faults)
+        (inputs (T.content tree.new) (T.faults tree.new) script.told script.faults clock.told clock.faults)
         (Imports (T.content tree.old) (T.faults tree.old) (T.faults tree.new) offset files.now) report) }
+    ensures tells { (script : Bytes) (clock : Shown) → IfOk result (λ report. TellsFirst offset (Import files.now)
+        (inputs (T.content tree.old) (T.faults tree.old) script.told script.faults clock.told clock.faults)
+        (inputs (T.content tree.new) (T.faults tree.new) script.told script.faults clock.told clock.faults)
+        report.status) }
 {
     let made = md_files::import(alloc, tree, offset, files)?;
     Ok(of_files(made))
@@ -53,11 +63,15 @@ pub(crate) fn asked<T: Tree, S: Source, C: Clock>(
     script: &mut S,
     clock: &mut C,
 ) -> Result<Report, AllocError>
-    requires { is_run command.now.what ≡ true }
-    ensures { IfOk result (λ report. ToolAsks command.now.offset
-        (record { tree = record { told = T.content tree.old; faults = T.faults tree.old }; script = record { told = S.left script.old; faults = S.faults script.old }; clock = record { told = C.moment clock.old; faults = C.faults clock.old } })
-        (record { tree = record { told = T.content tree.new; faults = T.faults tree.new }; script = record { told = S.left script.new; faults = S.faults script.new }; clock = record { told = C.moment clock.new; faults = C.faults clock.new } })
+    requires { is_offered command.now.what ≡ true }
+    ensures asks { IfOk result (λ report. ToolAsks command.now.offset
+        (inputs (T.content tree.old) (T.faults tree.old) (S.left script.old) (S.faults script.old) (C.moment clock.old) (C.faults clock.old))
+        (inputs (T.content tree.new) (T.faults tree.new) (S.left script.new) (S.faults script.new) (C.moment clock.new) (C.faults clock.new))
         command.now.what report) }
+    ensures tells { IfOk result (λ report. TellsFirst command.now.offset command.now.what
+        (inputs (T.content tree.old) (T.faults tree.old) (S.left script.old) (S.faults script.old) (C.moment clock.old) (C.faults clock.old))
+        (inputs (T.content tree.new) (T.faults tree.new) (S.left script.new) (S.faults script.new) (C.moment clock.new) (C.faults clock.new))
+        report.status) }
 {
     let offset = command.offset;
     match &command.what {

@@ -1,14 +1,12 @@
 // The top call.
-ghost use Rattle.std.specs.Prelude.{◌≡◌, ◌⊎◌, true, false, IsErr, IfOk, IfSome, Some, None};
-ghost use Rattle.md_source.specs.Causes.{Rose};
+ghost use Rattle.std.specs.Prelude.{◌≡◌, ◌⊎◌, true, IsErr, IfOk, Some, None};
 ghost use Rattle.md_words.specs.Words.{texts};
-ghost use Rattle.md_words.specs.Grammar.{command_of, is_run};
+ghost use Rattle.md_words.specs.Grammar.{command_of, is_offered};
 ghost use Rattle.md_words.specs.declared.command.Command.{Command};
-ghost use Rattle.md_tool.specs.Commands.{ReadAs, IsLive, tells_named};
-ghost use Rattle.md_tool.specs.Outside.{Inputs, Outputs, InputFails, Fails};
-ghost use Rattle.md_tool.specs.Asking.{CommandAsks, WordsAsk, Ends, IsReady, IsRefused, HasFormOut, IsComplete};
-ghost use Rattle.md_tool.specs.declared.status.Status.{Status};
-ghost use Rattle.md_tool.specs.declared.status.Status.TheVariants as status;
+ghost use Rattle.md_tool.specs.Outside.{inputs, outputs, TakesNothing};
+ghost use Rattle.md_tool.specs.Reports as reports;
+ghost use Rattle.md_tool.specs.Asking.{CommandAsks, WordsAsk, Ends};
+ghost use Rattle.md_tool.specs.Causes.{Tells, InputFails, OutputFails, IsReady, IsWhole};
 
 use crate::report::{Report, usage};
 use crate::tools::asked;
@@ -17,17 +15,84 @@ use md_source::{Clock, PutEnd, Sink, Source, Tree, put_texts};
 use md_words::{Command, WordsError, read_words};
 use std::alloc::{AllocError, Global};
 
-// Puts both texts.
-fn print<K: Sink, E: Sink>(report: &Report, out: &mut K, err: &mut E) -> Outcome
-    ensures { (Asks : Report → Type 0) → Asks report.now → Ends Asks
-        (record { err = record { told = E.taken err.old; faults = E.faults err.old }; out = record { told = K.taken out.old; faults = K.faults out.old } })
-        (record { err = record { told = E.taken err.new; faults = E.faults err.new }; out = record { told = K.taken out.new; faults = K.faults out.new } })
-        result.status }
+// Puts both texts, where memory did not run out.
+fn print<K: Sink, E: Sink>(report: Result<Report, AllocError>, out: &mut K, err: &mut E) -> Outcome
+    // What is printed of a report.
+    ensures ends { IfOk report (λ r. (Asks : reports.Report → Type 0) → Asks r → Ends Asks (outputs (E.taken err.old) (E.faults err.old) (K.taken out.old) (K.faults out.old)) (outputs (E.taken err.new) (E.faults err.new) (K.taken out.new) (K.faults out.new)) result.status) }
+    ensures status { IfOk report (λ r. (result.status ≡ r.status) ⊎ ((result.status ≡ Status.Memory) ⊎ ((result.status ≡ Status.WriteFault) × OutputFails (outputs (E.taken err.old) (E.faults err.old) (K.taken out.old) (K.faults out.old)) (outputs (E.taken err.new) (E.faults err.new) (K.taken out.new) (K.faults out.new))))) }
+    ensures memory { IsErr report → (result.status ≡ Status.Memory) × TakesNothing (record { told = E.taken err.old; faults = E.faults err.old }) (record { told = E.taken err.new; faults = E.faults err.new }) × TakesNothing (record { told = K.taken out.old; faults = K.faults out.old }) (record { told = K.taken out.new; faults = K.faults out.new }) }
 {
+    let Ok(report) = report else {
+        return Outcome {
+            status: Status::Memory,
+        };
+    };
     let status = match put_texts(err, report.err.as_str(), out, report.out.as_str()) {
         Ok(()) => report.status,
         Err(PutEnd::Failed) => Status::WriteFault,
         Err(PutEnd::Memory) => Status::Memory,
     };
     Outcome { status }
+}
+
+/// Runs a command: `mdls` and `mdimport` over the tree, and `live` over the script and the clock, by a server of its own.
+/// The whole text for `err` is put before that for `out`.
+///
+/// The command is one that `read_words` gives. A tool calls only what it needs: `mdls` and `mdimport` the tree alone, the
+/// lists of importers and attributes nothing, `live` the script, which has at most 67,108,864 bytes and 100,000 lines, and
+/// then the clock once.
+pub fn run_tool<T: Tree, S: Source, C: Clock, K: Sink, E: Sink>(
+    alloc: Global,
+    command: &Command,
+    tree: &mut T,
+    script: &mut S,
+    clock: &mut C,
+    out: &mut K,
+    err: &mut E,
+) -> Outcome
+    requires { is_offered command.now.what ≡ true }
+    // What is printed, and the status that goes with it.
+    ensures ends { Ends (CommandAsks command.now (inputs (T.content tree.old) (T.faults tree.old) (S.left script.old) (S.faults script.old) (C.moment clock.old) (C.faults clock.old)) (inputs (T.content tree.new) (T.faults tree.new) (S.left script.new) (S.faults script.new) (C.moment clock.new) (C.faults clock.new))) (outputs (E.taken err.old) (E.faults err.old) (K.taken out.old) (K.faults out.old)) (outputs (E.taken err.new) (E.faults err.new) (K.taken out.new) (K.faults out.new)) result.status }
+    // The cause of each status.
+    ensures tells { Tells command.now.offset command.now.what (inputs (T.content tree.old) (T.faults tree.old) (S.left script.old) (S.faults script.old) (C.moment clock.old) (C.faults clock.old)) (inputs (T.content tree.new) (T.faults tree.new) (S.left script.new) (S.faults script.new) (C.moment clock.new) (C.faults clock.new)) result.status }
+    ensures write_fault { result.status ≡ Status.WriteFault → OutputFails (outputs (E.taken err.old) (E.faults err.old) (K.taken out.old) (K.faults out.old)) (outputs (E.taken err.new) (E.faults err.new) (K.taken out.new) (K.faults out.new)) }
+    // Where all that the command needs is told and in order and no call on the outside failed, all is printed, or memory
+    // ran out.
+    ensures complete { IsReady command.now.offset (inputs (T.content tree.old) (T.faults tree.old) (S.left script.old) (S.faults script.old) (C.moment clock.old) (C.faults clock.old)) command.now.what → ¬ (InputFails (inputs (T.content tree.old) (T.faults tree.old) (S.left script.old) (S.faults script.old) (C.moment clock.old) (C.faults clock.old)) (inputs (T.content tree.new) (T.faults tree.new) (S.left script.new) (S.faults script.new) (C.moment clock.new) (C.faults clock.new))) → ¬ (OutputFails (outputs (E.taken err.old) (E.faults err.old) (K.taken out.old) (K.faults out.old)) (outputs (E.taken err.new) (E.faults err.new) (K.taken out.new) (K.faults out.new)))
+        → (result.status ≡ Status.Memory) ⊎ IsWhole command.now.what (inputs (T.content tree.new) (T.faults tree.new) (S.left script.new) (S.faults script.new) (C.moment clock.new) (C.faults clock.new)) result.status }
+{
+    let report = asked(alloc, command, tree, script, clock);
+    print(report, out, err)
+}
+
+/// The top call: reads the words of the program and runs their command by `run_tool`. Words that are not understood have a
+/// line on `err`, and nothing else is called.
+pub fn run<T: Tree, S: Source, C: Clock, K: Sink, E: Sink>(
+    alloc: Global,
+    words: &[String],
+    tree: &mut T,
+    script: &mut S,
+    clock: &mut C,
+    out: &mut K,
+    err: &mut E,
+) -> Outcome
+    // What is printed, and the status that goes with it.
+    ensures ends { Ends (WordsAsk (texts words.now) (inputs (T.content tree.old) (T.faults tree.old) (S.left script.old) (S.faults script.old) (C.moment clock.old) (C.faults clock.old)) (inputs (T.content tree.new) (T.faults tree.new) (S.left script.new) (S.faults script.new) (C.moment clock.new) (C.faults clock.new))) (outputs (E.taken err.old) (E.faults err.old) (K.taken out.old) (K.faults out.old)) (outputs (E.taken err.new) (E.faults err.new) (K.taken out.new) (K.faults out.new)) result.status }
+    // The cause of each status.
+    ensures usage { result.status ≡ Status.Usage → command_of (texts words.now) ≡ None }
+    ensures tells { (command : Command) → command_of (texts words.now) ≡ Some command → Tells command.offset command.what (inputs (T.content tree.old) (T.faults tree.old) (S.left script.old) (S.faults script.old) (C.moment clock.old) (C.faults clock.old)) (inputs (T.content tree.new) (T.faults tree.new) (S.left script.new) (S.faults script.new) (C.moment clock.new) (C.faults clock.new)) result.status }
+    ensures write_fault { result.status ≡ Status.WriteFault → OutputFails (outputs (E.taken err.old) (E.faults err.old) (K.taken out.old) (K.faults out.old)) (outputs (E.taken err.new) (E.faults err.new) (K.taken out.new) (K.faults out.new)) }
+    // Where the words are understood, all that their command needs is told and in order and no call on the outside failed,
+    // all is printed, or memory ran out.
+    ensures complete { (command : Command) → command_of (texts words.now) ≡ Some command
+        → IsReady command.offset (inputs (T.content tree.old) (T.faults tree.old) (S.left script.old) (S.faults script.old) (C.moment clock.old) (C.faults clock.old)) command.what → ¬ (InputFails (inputs (T.content tree.old) (T.faults tree.old) (S.left script.old) (S.faults script.old) (C.moment clock.old) (C.faults clock.old)) (inputs (T.content tree.new) (T.faults tree.new) (S.left script.new) (S.faults script.new) (C.moment clock.new) (C.faults clock.new))) → ¬ (OutputFails (outputs (E.taken err.old) (E.faults err.old) (K.taken out.old) (K.faults out.old)) (outputs (E.taken err.new) (E.faults err.new) (K.taken out.new) (K.faults out.new)))
+        → (result.status ≡ Status.Memory) ⊎ IsWhole command.what (inputs (T.content tree.new) (T.faults tree.new) (S.left script.new) (S.faults script.new) (C.moment clock.new) (C.faults clock.new)) result.status }
+{
+    match read_words(alloc, words) {
+        Ok(command) => run_tool(alloc, &command, tree, script, clock, out, err),
+        Err(WordsError::Usage) => print(usage(alloc), out, err),
+        Err(WordsError::Memory) => Outcome {
+            status: Status::Memory,
+        },
+    }
 }

@@ -1,21 +1,21 @@
-use Rattle.std.proofs.Common.{◌≡◌, ◌∙◌, Ok, inl, inr, sym, ap, refl, rules, FitsSigned, w64, List}
+use Rattle.std.proofs.Common.{◌≡◌, ◌∙◌, Ok, inl, inr, sym, ap, refl, rules, FitsSigned, w32, w64, List}
 use Rattle.std.proofs.lemmas.Int.{to_z-of_z}
 use Rattle.md_script.specs.declared.script.Line.{Line}
 use Rattle.md_script.specs.Scripts.{verdict}
 use Rattle.md_tool.specs.Outside.{IsShown}
 use Rattle.md_tool.proofs.Ending.{ok_then, err_then, answers_refuses, answers_unclocked, answers_runs}
 use Rattle.md_tool.proofs.Scripts.{few_lines}
-use Rattle.md_tool.proofs.top.answer.Goals as goal
+use Rattle.md_tool.proofs.live.answer.Goals as goal
 
 pub returns-in-Err : goal.returns-in-Err
 returns-in-Err g c =
     elim c.in-Err.ensures.refused [
-      | inl v ↦ ok_then _ _ (answers_refuses c.args.bytes.now _ _ c.in-Err.error v refl) c.refused.result c.refused.ensures.report
+      | inl v ↦ ok_then _ _ (answers_refuses c.args.offset c.args.bytes.now _ _ c.in-Err.error v refl) c.refused.result c.refused.ensures.report
       | inr want ↦ err_then _ c.refused.result (c.refused.ensures.memory want)
     ]
 
-pub report_of-requires-clause-few : goal.report_of-requires-clause-few
-report_of-requires-clause-few g c = rw c.lines.ensures (few_lines c.args.bytes.now c.in-Ok.script c.in-Ok.ensures.ok)
+pub of_lines-requires-clause-few : goal.of_lines-requires-clause-few
+of_lines-requires-clause-few g c = rw c.lines.ensures (few_lines c.args.bytes.now c.in-Ok.script c.in-Ok.ensures.ok)
 
 pub returns-in-Ok-now : goal.returns-in-Ok-now
 returns-in-Ok-now g c =
@@ -23,8 +23,8 @@ returns-in-Ok-now g c =
     let read : verdict c.args.bytes.now ≡ Ok c.lines.result.now = c.in-Ok.ensures.ok ∙ ap (λ (lines : List Line). Ok lines) (sym c.lines.ensures) in
     let shown : IsShown (record { told = g.C.Clock.moment c.args.clock.now; faults = g.C.Clock.faults c.args.clock.now }) (record { told = g.C.Clock.moment c.now.new.self; faults = g.C.Clock.faults c.now.new.self }) c.in-Ok-now.now =
     record { range = c.in-Ok-now.ensures.range; told = c.in-Ok-now.ensures.told; kept = c.in-Ok-now.ensures.cause.kept } in
-    let made = simp to_z-of_z at c.report_of.ensures in
-    ok_then _ _ (answers_runs c.args.bytes.now _ _ c.lines.result.now c.in-Ok-now.now read shown) c.report_of.result made
+    let made = simp to_z-of_z at c.of_lines.ensures in
+    ok_then _ _ (answers_runs c.args.offset c.args.bytes.now _ _ c.lines.result.now c.in-Ok-now.now read shown) c.of_lines.result made
 
 pub returns : goal.returns
-returns g c = ok_then _ _ (answers_unclocked c.args.bytes.now _ _ c.in-Ok.script c.in-Ok.ensures.ok c.in-Err-now.ensures.cause.failed) c.refusal.result c.refusal.ensures
+returns g c = ok_then _ _ (answers_unclocked c.args.offset c.args.bytes.now _ _ c.in-Ok.script c.in-Ok.ensures.ok c.in-Err-now.ensures.cause.failed) c.refusal.result c.refusal.ensures
