@@ -1,7 +1,8 @@
 -- The texts of a line, and then of the lines after it.
-use Rattle.std.proofs.Common.{◌≡◌, ℕ, ℤ, ◌+◌, ◌≤◌, List, ◌++◌, [], length, sym, ◌∙◌, ap, arith, append_assoc, Option, Some, None}
+use Rattle.std.proofs.Common.{◌≡◌, ℕ, ℤ, ◌+◌, ◌≤◌, List, ◌++◌, length, sym, ◌∙◌, ap, arith, append_assoc, Option, Some, None}
 use Rattle.md_value.specs.Values.{PathBytes}
 use Rattle.md_world.specs.declared.Change.{Change}
+use Rattle.md_world.specs.declared.Change.TheVariants as change
 use Rattle.md_machine.specs.declared.Event.{Event}
 use Rattle.md_machine.specs.declared.Event.TheVariants as event
 use Rattle.md_machine.specs.declared.Reply.{Reply}
@@ -14,6 +15,7 @@ use Rattle.md_render.specs.Texts.{journal_text}
 use Rattle.md_render.proofs.Joined.{journal_text-append}
 use Rattle.md_script.specs.declared.script.What.{What}
 use Rattle.md_script.specs.declared.script.What.TheVariants as what
+use Rattle.md_live.specs.Files.{put_file, change_of}
 use Rattle.md_live.specs.Events.{after_commit, end_of, after_draw, job, line_events, entries_from}
 use Rattle.md_live.specs.Telling.{Telling, told}
 
@@ -46,8 +48,8 @@ few_in_job s path c = omega (arith, few_after_draw (step s (event.Draw path)).st
 
 -- a line has at most three events
 pub few_events : (now offset : ℤ) (s : State) (w : What) → length (line_events now offset s w) ≤ 3
-few_events now offset s (what.Put path text) = few_in_job s path _
-few_events now offset s (what.Remove path) = few_in_job s path _
+few_events now offset s (what.Put path text) = few_in_job s path (change_of (put_file now offset path text))
+few_events now offset s (what.Remove path) = few_in_job s path (Some change.Remove)
 few_events now offset s (what.Query client number expr) = omega arith
 few_events now offset s (what.Gather client number) = omega arith
 few_events now offset s (what.Poll client number) = omega arith

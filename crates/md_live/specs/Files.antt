@@ -5,7 +5,6 @@ use Rattle.md_value.specs.Values.{PathBytes}
 use Rattle.md_value.specs.declared.fault.Fault.{Fault}
 use Rattle.md_world.specs.declared.Change.{Change}
 use Rattle.md_world.specs.declared.Change.TheVariants as change
-use Rattle.md_source.specs.declared.tree.Entry.{Entry}
 use Rattle.imp_kind.specs.Imports.{import}
 use Rattle.md_print.specs.Faults.{fault_text}
 

@@ -29,7 +29,7 @@ use std::marker::Model;
 // The moment of a run, in seconds since 1970 in UTC, and the minutes by which local time is ahead of UTC.
 #[derive(Clone, Copy)]
 struct Setting {
-    now: i64,
+    moment: i64,
     offset: i32,
 }
 
@@ -59,11 +59,18 @@ impl Model for Session {
 // What asks for the files that satisfy the expression, anywhere, by their paths and without batches. No form of time is
 // out of range where this is called; if one were, this would answer want of memory.
 fn spec_of(alloc: Global, expr: &Expr, setting: &Setting) -> Result<Spec, AllocError>
-    ensures { IfOk result (λ spec. spec ≡ asked expr.now setting.entry.now setting.entry.offset [] [] NONE) }
+    ensures { IfOk result (λ spec. spec ≡ asked expr.now setting.now.moment setting.now.offset [] [] NONE) }
 {
     let expr = expr.copy(alloc)?;
     let order = Order::by_path(alloc);
-    match Spec::new(expr, setting.now, setting.offset, Path::root(alloc), order, Batch::NONE) {
+    match Spec::new(
+        expr,
+        setting.moment,
+        setting.offset,
+        Path::root(alloc),
+        order,
+        Batch::NONE,
+    ) {
         Ok(spec) => Ok(spec),
         Err(_) => Err(AllocError),
     }
@@ -151,14 +158,14 @@ impl Session {
         content: &Content,
     ) -> Result<(), AllocError>
         requires room { self.old.next + 3 < 2 ^ 64 }
-        requires moment { IsMoment setting.entry.now }
-        ensures { OnOk result (self.new ≡ after_line setting.entry.now setting.entry.offset self.old (Put path.now content.now)) }
+        requires moment { IsMoment setting.now.moment }
+        ensures { OnOk result (self.new ≡ after_line setting.now.moment setting.now.offset self.old (Put path.now content.now)) }
     {
         let bytes = content.as_str().as_bytes();
         let entry = Entry {
             path: path.copy(alloc)?,
             size: bytes.len() as u64,
-            changed: setting.now,
+            changed: setting.moment,
         };
         match import(alloc, &entry, bytes, setting.offset) {
             Imported::Attrs(attrs) => self.job(alloc, path, Some(Change::Put(attrs))),
@@ -172,8 +179,8 @@ impl Session {
 
     fn line(&mut self, alloc: Global, setting: &Setting, what: &What) -> Result<(), AllocError>
         requires room { self.old.next + 3 < 2 ^ 64 }
-        requires moment { IsMoment setting.entry.now }
-        ensures { OnOk result (self.new ≡ after_line setting.entry.now setting.entry.offset self.old what.now) }
+        requires moment { IsMoment setting.now.moment }
+        ensures { OnOk result (self.new ≡ after_line setting.now.moment setting.now.offset self.old what.now) }
     {
         match what {
             What::Put { path, text } => self.put(alloc, setting, path, text),
@@ -219,7 +226,10 @@ pub fn run(alloc: Global, now: i64, offset: i32, lines: &[Line]) -> Result<Print
     requires moment { IsMoment now }
     ensures { IfOk result (λ p. p ≡ printed now offset lines.now) }
 {
-    let setting = Setting { now, offset };
+    let setting = Setting {
+        moment: now,
+        offset,
+    };
     let mut session = Session::new(alloc);
     for line in lines {
         session.line(alloc, &setting, &line.what)?;
