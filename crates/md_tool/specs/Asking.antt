@@ -56,12 +56,14 @@ pub data WordsAsk (words : List (List ℕ)) (old new : Inputs) : Report → Type
   misread : command_of words ≡ None → new ≡ old → WordsAsk words old new usage
   commands : (command : Command) (report : Report) → command_of words ≡ Some command → CommandAsks command old new report → WordsAsk words old new report
 
--- How a run ends: the texts that were asked stand whole on err and then on out; or a put failed, and nothing more was put; or memory ran out, and nothing was put.
+-- How a report is put: both texts stand whole, that on err and then that on out; or a put failed, and nothing more was put; or memory ran out, and nothing was put.
+pub data Prints (report : Report) (before after : Outputs) : Status → Type 0 where
+  whole : TakesWhole before.err after.err report.err → TakesWhole before.out after.out report.out → Prints report before after report.status
+  stopped_in_err : TakesPart before.err after.err report.err → TakesNothing before.out after.out → Prints report before after status.WriteFault
+  stopped_in_out : TakesWhole before.err after.err report.err → TakesPart before.out after.out report.out → Prints report before after status.WriteFault
+  no_room : TakesNothing before.err after.err → TakesNothing before.out after.out → Prints report before after status.Memory
+
+-- How a run ends: what is asked is put; or memory ran out, and nothing was put.
 pub data Ends (Asks : Report → Type 0) (before after : Outputs) : Status → Type 0 where
-  printed : (report : Report) → Asks report → TakesWhole before.err after.err report.err → TakesWhole before.out after.out report.out
-      → Ends Asks before after report.status
-  stopped_in_err : (report : Report) → Asks report → TakesPart before.err after.err report.err → TakesNothing before.out after.out
-      → Ends Asks before after status.WriteFault
-  stopped_in_out : (report : Report) → Asks report → TakesWhole before.err after.err report.err → TakesPart before.out after.out report.out
-      → Ends Asks before after status.WriteFault
+  prints : (report : Report) (answer : Status) → Asks report → Prints report before after answer → Ends Asks before after answer
   no_memory : TakesNothing before.err after.err → TakesNothing before.out after.out → Ends Asks before after status.Memory

@@ -4,8 +4,7 @@ ghost use Rattle.md_words.specs.Words.{texts};
 ghost use Rattle.md_words.specs.Grammar.{command_of, is_offered};
 ghost use Rattle.md_words.specs.declared.command.Command.{Command};
 ghost use Rattle.md_tool.specs.Outside.{inputs, outputs, TakesNothing};
-ghost use Rattle.md_tool.specs.Reports as reports;
-ghost use Rattle.md_tool.specs.Asking.{CommandAsks, WordsAsk, Ends};
+ghost use Rattle.md_tool.specs.Asking.{CommandAsks, WordsAsk, Prints, Ends};
 ghost use Rattle.md_tool.specs.Causes.{Tells, InputFails, OutputFails, IsReady, IsWhole};
 
 use crate::report::{Report, usage};
@@ -18,7 +17,7 @@ use std::alloc::{AllocError, Global};
 // Puts both texts, where memory did not run out.
 fn print<K: Sink, E: Sink>(report: Result<Report, AllocError>, out: &mut K, err: &mut E) -> Outcome
     // What is printed of a report.
-    ensures ends { IfOk report (λ r. (Asks : reports.Report → Type 0) → Asks r → Ends Asks (outputs (E.taken err.old) (E.faults err.old) (K.taken out.old) (K.faults out.old)) (outputs (E.taken err.new) (E.faults err.new) (K.taken out.new) (K.faults out.new)) result.status) }
+    ensures prints { IfOk report (λ r. Prints r (outputs (E.taken err.old) (E.faults err.old) (K.taken out.old) (K.faults out.old)) (outputs (E.taken err.new) (E.faults err.new) (K.taken out.new) (K.faults out.new)) result.status) }
     ensures status { IfOk report (λ r. (result.status ≡ r.status) ⊎ ((result.status ≡ Status.Memory) ⊎ ((result.status ≡ Status.WriteFault) × OutputFails (outputs (E.taken err.old) (E.faults err.old) (K.taken out.old) (K.faults out.old)) (outputs (E.taken err.new) (E.faults err.new) (K.taken out.new) (K.faults out.new))))) }
     ensures memory { IsErr report → (result.status ≡ Status.Memory) × TakesNothing (record { told = E.taken err.old; faults = E.faults err.old }) (record { told = E.taken err.new; faults = E.faults err.new }) × TakesNothing (record { told = K.taken out.old; faults = K.faults out.old }) (record { told = K.taken out.new; faults = K.faults out.new }) }
 {

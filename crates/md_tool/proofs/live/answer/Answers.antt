@@ -19,7 +19,8 @@ of_lines-requires-clause-few g c = rw c.lines.ensures (few_lines c.args.bytes.no
 
 pub returns-in-Ok-now : goal.returns-in-Ok-now
 returns-in-Ok-now g c =
-    let fits : FitsSigned w64 c.in-Ok-now.now = search rules in
+    let moment_fits : FitsSigned w64 c.in-Ok-now.now = search rules in
+    let offset_fits : FitsSigned w32 c.args.offset = search rules in
     let read : verdict c.args.bytes.now ≡ Ok c.lines.result.now = c.in-Ok.ensures.ok ∙ ap (λ (lines : List Line). Ok lines) (sym c.lines.ensures) in
     let shown : IsShown (record { told = g.C.Clock.moment c.args.clock.now; faults = g.C.Clock.faults c.args.clock.now }) (record { told = g.C.Clock.moment c.now.new.self; faults = g.C.Clock.faults c.now.new.self }) c.in-Ok-now.now =
     record { range = c.in-Ok-now.ensures.range; told = c.in-Ok-now.ensures.told; kept = c.in-Ok-now.ensures.cause.kept } in

@@ -1,0 +1,48 @@
+use Rattle.std.proofs.Common.{◌≡◌, sym, subst, rules, FitsSigned, w32}
+use Rattle.std.proofs.lemmas.Int.{to_z-of_z}
+use Rattle.md_words.specs.declared.command.Tool.{Tool}
+use Rattle.md_tool.specs.Outside.{Files, Bytes, Shown, Inputs, inputs}
+use Rattle.md_tool.specs.Asking.{ToolAsks}
+use Rattle.md_tool.specs.Causes.{TellsFirst}
+use Rattle.md_tool.proofs.Ending.{ok_then, live_asks, live_tells_first}
+use Rattle.md_tool.proofs.tools.asked.Goals as goal
+
+pub returns-in-Show-clause-asks : goal.returns-in-Show-clause-asks
+returns-in-Show-clause-asks g c =
+    let fits : FitsSigned w32 c.args.command.now.offset = search rules in
+    let script : Bytes = record { told = g.S.Source.left c.args.script.now; faults = g.S.Source.faults c.args.script.now } in
+    let clock : Shown = record { told = g.C.Clock.moment c.args.clock.now; faults = g.C.Clock.faults c.args.clock.now } in
+    ok_then _ _ (λ report of. rw c.in-Show.is (simp (to_z-of_z, c.as_str.ensures, c.as_slice.ensures, c.as_slice-in-Show.ensures) at of)) c.show.result (c.show.ensures.asks script clock)
+
+pub returns-in-Show-clause-tells : goal.returns-in-Show-clause-tells
+returns-in-Show-clause-tells g c =
+    let fits : FitsSigned w32 c.args.command.now.offset = search rules in
+    let script : Bytes = record { told = g.S.Source.left c.args.script.now; faults = g.S.Source.faults c.args.script.now } in
+    let clock : Shown = record { told = g.C.Clock.moment c.args.clock.now; faults = g.C.Clock.faults c.args.clock.now } in
+    ok_then _ _ (λ report of. rw c.in-Show.is (simp (to_z-of_z, c.as_str.ensures, c.as_slice.ensures, c.as_slice-in-Show.ensures) at of)) c.show.result (c.show.ensures.tells script clock)
+
+pub returns-in-Import-clause-asks : goal.returns-in-Import-clause-asks
+returns-in-Import-clause-asks g c =
+    let fits : FitsSigned w32 c.args.command.now.offset = search rules in
+    let script : Bytes = record { told = g.S.Source.left c.args.script.now; faults = g.S.Source.faults c.args.script.now } in
+    let clock : Shown = record { told = g.C.Clock.moment c.args.clock.now; faults = g.C.Clock.faults c.args.clock.now } in
+    ok_then _ _ (λ report of. rw c.in-Import.is (simp (to_z-of_z, c.as_slice-in-Import.ensures) at of)) c.import.result (c.import.ensures.asks script clock)
+
+pub returns-in-Import-clause-tells : goal.returns-in-Import-clause-tells
+returns-in-Import-clause-tells g c =
+    let fits : FitsSigned w32 c.args.command.now.offset = search rules in
+    let script : Bytes = record { told = g.S.Source.left c.args.script.now; faults = g.S.Source.faults c.args.script.now } in
+    let clock : Shown = record { told = g.C.Clock.moment c.args.clock.now; faults = g.C.Clock.faults c.args.clock.now } in
+    ok_then _ _ (λ report of. rw c.in-Import.is (simp (to_z-of_z, c.as_slice-in-Import.ensures) at of)) c.import.result (c.import.ensures.tells script clock)
+
+pub returns-in-Live-None-clause-asks : goal.returns-in-Live-None-clause-asks
+returns-in-Live-None-clause-asks g c =
+    let fits : FitsSigned w32 c.args.command.now.offset = search rules in
+    let tree : Files = record { told = g.T.Tree.content c.args.tree.now; faults = g.T.Tree.faults c.args.tree.now } in
+    ok_then _ _ (λ report of. live_asks _ _ _ _ _ c.in-Live-None.is (search rules) report (simp to_z-of_z at of)) c.live.result (c.live.ensures.asks tree)
+
+pub returns-in-Live-None-clause-tells : goal.returns-in-Live-None-clause-tells
+returns-in-Live-None-clause-tells g c =
+    let fits : FitsSigned w32 c.args.command.now.offset = search rules in
+    let tree : Files = record { told = g.T.Tree.content c.args.tree.now; faults = g.T.Tree.faults c.args.tree.now } in
+    ok_then _ _ (λ report of. live_tells_first _ _ _ _ _ c.in-Live-None.is (search rules) report.status (simp to_z-of_z at of)) c.live.result (c.live.ensures.tells tree)
