@@ -4,6 +4,7 @@ use Rattle.std.specs.List.{flat_map}
 use Rattle.std.specs.Prelude.{IsUtf8, chars, encode_utf8, encode_utf8_all}
 use Rattle.std.proofs.lemmas.Bool.Decides.{nat_tests}
 use Rattle.std.proofs.lemmas.Grind.{flat_map-append}
+use Rattle.std.proofs.lemmas.List.Concat.{flat_map_single}
 use Rattle.std.proofs.lemmas.Str.{inside_one, encodes-append, encodes-chars}
 use Rattle.md_print.specs.Paths.{escape}
 use Rattle.md_print.specs.Attributes.{escape_quoted}
@@ -12,42 +13,38 @@ use Rattle.md_print.specs.Attributes.{escape_quoted}
 abbrev pub is_special : ℕ → Bool
 is_special b = (b == 92) || (b == 9) || (b == 10) || (b == 13)
 
--- whether a byte has an escape in a text in double quotes
-abbrev pub is_special_quoted : ℕ → Bool
-is_special_quoted b = (b == 34) || is_special b
-
 plain_one : (b : ℕ) → is_special b ≡ false → escape b ≡ b ∷ []
 plain_one b h = grind (arith, nat_tests)
 
-plain_one_quoted : (b : ℕ) → is_special_quoted b ≡ false → escape_quoted b ≡ b ∷ []
-plain_one_quoted b h = grind (arith, nat_tests)
+-- two escapes that agree on each byte
+same_all : (f g : ℕ → List ℕ) (bs : List ℕ) → ((k : ℕ) → k < length bs → f (get_or bs k 0) ≡ g (get_or bs k 0)) → flat_map f bs ≡ flat_map g bs
+same_all f g [] h = refl
+same_all f g (b ∷ bs) h =
+    let first : f b ≡ g b = h 0 (omega arith) in
+    rw first (ap (λ rest. g b ++ rest) (same_all f g bs (λ k l. h (suc k) (omega (arith, l)))))
 
-plain_all : (f : ℕ → List ℕ) (bs : List ℕ) → ((k : ℕ) → k < length bs → f (get_or bs k 0) ≡ get_or bs k 0 ∷ []) → flat_map f bs ≡ bs
-plain_all f [] h = refl
-plain_all f (b ∷ bs) h =
-    let first : f b ≡ b ∷ [] = h 0 (omega arith) in
-    rw first (ap (λ rest. b ∷ rest) (plain_all f bs (λ k l. h (suc k) (omega (arith, l)))))
+-- two escapes that agree on each byte of a character: one below 128 is the character
+same_char : (f g : ℕ → List ℕ) (c : ℕ) → ((b : ℕ) → (b < 128 → c ≡ b) → f b ≡ g b) → flat_map f (encode_utf8 c) ≡ flat_map g (encode_utf8 c)
+same_char f g c h =
+    same_all f g (encode_utf8 c)
+    (λ k l. h (get_or (encode_utf8 c) k 0) (λ b. inside_one c [] (encode_utf8 c) k (sym (append-nil (encode_utf8 c))) l b))
 
--- a byte below 128 of a character is the character
 byte_plain : (c b : ℕ) → is_special c ≡ false → (b < 128 → c ≡ b) → is_special b ≡ false
 byte_plain c b h e = grind (arith, nat_tests)
 
-byte_plain_quoted : (c b : ℕ) → is_special_quoted c ≡ false → (b < 128 → c ≡ b) → is_special_quoted b ≡ false
-byte_plain_quoted c b h e = grind (arith, nat_tests)
-
--- a character whose bytes have no escape
-plain_bytes : (f : ℕ → List ℕ) (c : ℕ) → ((b : ℕ) → (b < 128 → c ≡ b) → f b ≡ b ∷ []) → flat_map f (encode_utf8 c) ≡ encode_utf8 c
-plain_bytes f c h =
-    plain_all f (encode_utf8 c)
-    (λ k l. h (get_or (encode_utf8 c) k 0) (λ b. inside_one c [] (encode_utf8 c) k (sym (append-nil (encode_utf8 c))) l b))
-
 -- a character that has no escape
 pub plain_char : (c : ℕ) → is_special c ≡ false → flat_map escape (encode_utf8 c) ≡ encode_utf8 c
-plain_char c h = plain_bytes escape c (λ b e. plain_one b (byte_plain c b h e))
+plain_char c h =
+    same_char escape (λ b. b ∷ []) c (λ b e. plain_one b (byte_plain c b h e))
+    ∙ flat_map_single (λ b. b) (encode_utf8 c)
+    ∙ map-id (encode_utf8 c)
 
--- a character that has no escape in a text in double quotes
-pub plain_char_quoted : (c : ℕ) → is_special_quoted c ≡ false → flat_map escape_quoted (encode_utf8 c) ≡ encode_utf8 c
-plain_char_quoted c h = plain_bytes escape_quoted c (λ b e. plain_one_quoted b (byte_plain_quoted c b h e))
+byte_unquoted : (c b : ℕ) → (c == 34) ≡ false → (b < 128 → c ≡ b) → escape_quoted b ≡ escape b
+byte_unquoted c b h e = grind (arith, nat_tests)
+
+-- a character other than a double quote
+pub unquoted_char : (c : ℕ) → (c == 34) ≡ false → flat_map escape_quoted (encode_utf8 c) ≡ flat_map escape (encode_utf8 c)
+unquoted_char c h = same_char escape_quoted escape c (λ b e. byte_unquoted c b h e)
 
 -- the escapes of some characters, with those of one more
 pub escaped_more : (f : ℕ → List ℕ) (old cs : List ℕ) (c : ℕ)

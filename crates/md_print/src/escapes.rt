@@ -66,11 +66,7 @@ fn push_quoted_char(text: &mut String, c: char) -> Result<(), AllocError>
 {
     match c {
         '"' => text.push_str("\\\""),
-        '\\' => text.push_str("\\\\"),
-        '\t' => text.push_str("\\t"),
-        '\n' => text.push_str("\\n"),
-        '\r' => text.push_str("\\r"),
-        _ => text.push(c),
+        _ => push_char(text, c),
     }
 }
 

@@ -1,11 +1,9 @@
-use Rattle.std.proofs.Common.{◌≡◌, false, arith, string_bytes}
+use Rattle.std.proofs.Common.{◌≡◌, ◌==◌, false, arith}
 use Rattle.std.proofs.lemmas.Bool.Decides.{nat_tests}
-use Rattle.std.specs.Prelude.{encode_utf8}
-use Rattle.md_print.proofs.Plain.{is_special_quoted, plain_char_quoted}
-use Rattle.md_print.proofs.Pushed.{pushed}
+use Rattle.md_print.proofs.Plain.{unquoted_char}
 use Rattle.md_print.proofs.escapes.push_quoted_char.Goals as goal
 
 pub returns-in_default : goal.returns-in_default
 returns-in_default c =
-    let plain : is_special_quoted c.args.c ≡ false = grind (arith, nat_tests) in
-    rw (plain_char_quoted c.args.c plain) (pushed _ _ (string_bytes c.args.text.now) (encode_utf8 c.args.c) c.push.ensures.bytes)
+    let other : (c.args.c == 34) ≡ false = grind (arith, nat_tests) in
+    rw (unquoted_char c.args.c other) c.push_char.ensures
