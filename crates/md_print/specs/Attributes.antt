@@ -13,7 +13,7 @@ use Rattle.md_time.specs.Printed.{moment_text}
 use Rattle.md_print.specs.Paths.{escape}
 
 -- the attribute that is never printed: the text of the whole file
-abbrev pub text_content : List ℕ
+unfoldable pub text_content : List ℕ
 text_content = codes "kMDItemTextContent"
 
 -- the names that are printed: those asked for, in their order, or else those of all attributes

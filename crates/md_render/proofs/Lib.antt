@@ -1,4 +1,2 @@
-pub mod Plain
 pub mod Joined
 pub mod Replied
-pub mod Pushed

@@ -5,23 +5,11 @@ use Rattle.std.specs.List.{flat_map}
 use Rattle.md_value.specs.Values.{PathBytes}
 use Rattle.md_world.specs.declared.Row.{Row}
 use Rattle.md_world.specs.declared.Notice.{Notice}
+use Rattle.md_print.specs.Paths.{escaped}
 use Rattle.md_machine.specs.declared.Event.{Event}
 use Rattle.md_machine.specs.declared.Event.TheVariants as event
 use Rattle.md_machine.specs.declared.Reply.{Reply}
 use Rattle.md_machine.specs.declared.Reply.TheVariants as reply
-
--- a byte of a path as it is printed
-abbrev pub escape : ℕ → List ℕ
-escape b =
-    if b == 92 then codes "\\\\"
-    else if b == 9 then codes "\\t"
-    else if b == 10 then codes "\\n"
-    else if b == 13 then codes "\\r"
-    else b ∷ []
-
--- a path as it is printed
-unfoldable pub escaped : PathBytes → List ℕ
-escaped path = flat_map escape path
 
 -- a line of a word and a number
 abbrev pub number_line : List ℕ → ℕ → List ℕ

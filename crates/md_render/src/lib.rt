@@ -2,15 +2,14 @@
 #![tactic(auto)]
 
 mod entries;
-mod escapes;
 mod held;
 pub mod laws;
 mod lines;
 mod replies;
 
 pub use entries::{entry_text, push_entry};
-pub use escapes::escaped;
 pub use held::{push_held, push_unheld};
+pub use md_print::escaped;
 
 #[cfg(test)]
 mod tests;

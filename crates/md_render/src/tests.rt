@@ -2,7 +2,7 @@ use crate::{entry_text, escaped, push_entry, push_held, push_unheld};
 use md_expr_tree::{Expr, Literal, Op, Subject, Test};
 use md_machine::{Batch, Event, Reply, Spec};
 use md_value::{Attrs, Items, Path};
-use md_world::{Change, Notice, Order, Part, Row, Rows};
+use md_world::{Change, Notice, Part, Row, Rows};
 use std::alloc::Global;
 use std::test::Fail;
 
@@ -28,6 +28,12 @@ fn notice(alloc: Global) -> Result<Notice, Fail> {
 }
 
 fn create(alloc: Global) -> Event {
+    let batch = Batch {
+        first: None,
+        progress: None,
+        update: None,
+        ms: None,
+    };
     let expr = Expr::Test(Test::Compare {
         subject: Subject::Some,
         op: Op::Equal,
@@ -38,8 +44,7 @@ fn create(alloc: Global) -> Event {
         now: 0,
         offset: 0,
         scope: Path::root(alloc),
-        order: Order::by_path(alloc),
-        batch: Batch::NONE,
+        batch,
     };
     Event::Create {
         client: 7,

@@ -3,19 +3,19 @@ use Rattle.std.specs.List.{flat_map}
 use Rattle.std.specs.Prelude.{encode_utf8}
 use Rattle.std.proofs.lemmas.Iterator.{YieldsList-from_chars}
 use Rattle.std.proofs.lemmas.Iterator.Consumers.{YieldsList-end}
-use Rattle.md_render.specs.Texts.{escape, escaped}
-use Rattle.md_render.proofs.Plain.{escaped_all, escaped_more}
-use Rattle.md_render.proofs.escapes.push_path.Goals as goal
+use Rattle.md_print.specs.Paths.{escape, escaped}
+use Rattle.md_print.proofs.Plain.{escaped_all, escaped_more}
+use Rattle.md_print.proofs.escapes.push_path.Goals as goal
 
 pub loop-c-preserved : goal.loop-c-preserved
 loop-c-preserved c =
     c.in_ok-push_char.ensures
     ∙ ap (λ bs. bs ++ flat_map escape (encode_utf8 c.in-Some.c)) c.loop-c.invariant
-    ∙ escaped_more (string_bytes c.args.text.now) c.loop-c.yielded c.in-Some.c
+    ∙ escaped_more escape (string_bytes c.args.text.now) c.loop-c.yielded c.in-Some.c
 
 pub returns : goal.returns
 unfolding escaped
 returns c =
     let end = YieldsList-end (YieldsList-from_chars c.as_str.result.now c.as_str.utf8 cc) c.loop-c.yielded _ c.loop-c.yielded_by _ _ c.in-None.is c.next.ensures.steps in
     c.loop-c.invariant
-    ∙ escaped_all (string_bytes c.args.text.now) c.as_str.result.now c.args.path.now c.loop-c.yielded c.as_str.utf8 c.as_str.ensures.value end.0
+    ∙ escaped_all escape (string_bytes c.args.text.now) c.as_str.result.now c.args.path.now c.loop-c.yielded c.as_str.utf8 c.as_str.ensures.value end.0

@@ -1,9 +1,9 @@
 use Rattle.std.proofs.Common.{◌≡◌, false, arith, string_bytes}
 use Rattle.std.proofs.lemmas.Bool.Decides.{nat_tests}
 use Rattle.std.specs.Prelude.{encode_utf8}
-use Rattle.md_render.proofs.Plain.{is_special, plain_char}
-use Rattle.md_render.proofs.Pushed.{pushed}
-use Rattle.md_render.proofs.escapes.push_char.Goals as goal
+use Rattle.md_print.proofs.Plain.{is_special, plain_char}
+use Rattle.md_print.proofs.Pushed.{pushed}
+use Rattle.md_print.proofs.escapes.push_char.Goals as goal
 
 pub returns-in_default : goal.returns-in_default
 returns-in_default c =
