@@ -1,0 +1,222 @@
+-- The causes of the ends.
+use Rattle.std.proofs.Common.{◌≡◌, ℕ, ℤ, Bool, true, false, ◌&&◌, ◌||◌, ◌+◌, ◌-◌, ◌^◌, ◌≤◌, min, List, [], ◌∷◌, ◌++◌, refl, sym, ◌∙◌, ap, subst, Option, Some, None, IfSome, Result, Ok, Err, arith}
+use Rattle.std.specs.List.{list_any, list_all}
+use Rattle.std.specs.Option.{option_map}
+use Rattle.std.proofs.lemmas.List.Folds.{list_any-append}
+use Rattle.md_value.specs.Values.{PathBytes}
+use Rattle.md_value.specs.Attrs.{Attr}
+use Rattle.md_value.specs.declared.fault.Fault.{Fault}
+use Rattle.md_source.specs.Causes.{Rose}
+use Rattle.md_source.specs.Tree.{Content, File, file_at, entry_at}
+use Rattle.md_source.specs.declared.tree.Entry.{Entry}
+use Rattle.imp_kind.specs.Imports.{import}
+use Rattle.md_files.specs.Answers.{Answer, IsAsked, IsRead, InTurn, AreAsked, HasNoFile, IsEntry, IsCounted, of_import, outcome, has_failed, failures}
+use Rattle.md_files.specs.Answers.Answer.{given, absent, failed}
+use Rattle.md_files.specs.Folders.{Found, IsFound, AreFound, AreRead, found_failures, all_failures}
+use Rattle.md_files.specs.Folders.Found.{file, unfound, folder, unlisted, nothing}
+use Rattle.md_files.specs.Findings.{Finding, asked_findings, read_findings, found_findings, all_findings, is_failed, is_absent, end_of}
+use Rattle.md_files.specs.Findings.Finding.{named, listed, no_listing}
+use Rattle.md_files.specs.Reports.{Report, Shows, Imports, EndHasCause, tells_file, tells, tells_files, tells_all}
+use Rattle.md_files.specs.declared.report.End.{End}
+use Rattle.md_files.specs.declared.report.End.TheVariants as ended
+use Rattle.md_files.proofs.Additions.{end_by}
+use Rattle.md_files.proofs.Counting.{first_failures, are_asked_counted, are_found_counted}
+
+-- whether there are some
+record Tells (some : Bool) (count : ℕ) : Type 0 where
+  pub none : some ≡ false → count ≡ 0
+  pub any : some ≡ true → 1 ≤ count
+
+tells_or : (b c : Bool) (m n : ℕ) → Tells b m → Tells c n → Tells (b || c) (m + n)
+tells_or true c m n h k = record { none = λ e. cc; any = λ e. omega (arith, h.any refl) }
+tells_or false true m n h k = record { none = λ e. cc; any = λ e. omega (arith, k.any refl) }
+tells_or false false m n h k = record { none = λ e. omega (arith, h.none refl, k.none refl); any = λ e. cc }
+
+tells_none : Tells false 0
+tells_none = record { none = λ e. refl; any = λ e. cc }
+
+tells_one : Tells true 1
+tells_one = record { none = λ e. cc; any = λ e. omega arith }
+
+quiet_named : (path : PathBytes) (given : Result (List Attr) Fault) → is_failed (named path (of_import given)) ≡ false
+quiet_named path (Ok attrs) = refl
+quiet_named path (Err fault) = refl
+
+quiet_listed : (path : PathBytes) (given : Result (List Attr) Fault) → is_failed (listed path (of_import given)) ≡ false
+quiet_listed path (Ok attrs) = refl
+quiet_listed path (Err fault) = refl
+
+there_named : (path : PathBytes) (given : Result (List Attr) Fault) → is_absent (named path (of_import given)) ≡ false
+there_named path (Ok attrs) = refl
+there_named path (Err fault) = refl
+
+there_listed : (entries : List Entry) (answers : List Answer) (offset : ℤ) → list_any is_absent (read_findings offset entries answers) ≡ false
+there_listed [] answers offset = refl
+there_listed (entry ∷ entries) [] offset = refl
+there_listed (entry ∷ entries) (answer ∷ answers) offset = there_listed entries answers offset
+
+or_false : (b : Bool) → (b || false) ≡ b
+or_false true = refl
+or_false false = refl
+
+module _ (offset : ℤ) where
+  named_tells : (path : PathBytes) (answer : Answer) → Tells (is_failed (named path (outcome offset answer))) (failures (answer ∷ []))
+  named_tells path (given entry bytes) = rw (quiet_named path (import entry bytes offset)) tells_none
+  named_tells path absent = tells_none
+  named_tells path failed = tells_one
+
+  listed_tells : (path : PathBytes) (answer : Answer) → Tells (is_failed (listed path (outcome offset answer))) (failures (answer ∷ []))
+  listed_tells path (given entry bytes) = rw (quiet_listed path (import entry bytes offset)) tells_none
+  listed_tells path absent = tells_none
+  listed_tells path failed = tells_one
+
+  asked_tells : (told : Option Content) (before now : ℕ) (paths : List PathBytes) (answers : List Answer) → AreAsked told before now paths answers
+      → Tells (list_any is_failed (asked_findings offset paths answers)) (failures answers)
+  asked_tells told before now [] [] kept = tells_none
+  asked_tells told before now [] (answer ∷ answers) none = absurd none
+  asked_tells told before now (path ∷ paths) [] none = absurd none
+  asked_tells told before now (path ∷ paths) (answer ∷ answers) turn =
+      rw (sym (first_failures answer answers))
+      (tells_or (is_failed (named path (outcome offset answer))) (list_any is_failed (asked_findings offset paths answers)) (failures (answer ∷ [])) (failures answers)
+      (named_tells path answer) (asked_tells told turn.0 now paths answers turn.2))
+
+  read_tells : (told : Option Content) (before now : ℕ) (entries : List Entry) (answers : List Answer) → AreRead told before now entries answers
+      → Tells (list_any is_failed (read_findings offset entries answers)) (failures answers)
+  read_tells told before now [] [] kept = tells_none
+  read_tells told before now [] (answer ∷ answers) none = absurd none
+  read_tells told before now (entry ∷ entries) [] none = absurd none
+  read_tells told before now (entry ∷ entries) (answer ∷ answers) turn =
+      rw (sym (first_failures answer answers))
+      (tells_or (is_failed (listed entry.path (outcome offset answer))) (list_any is_failed (read_findings offset entries answers)) (failures (answer ∷ [])) (failures answers)
+      (listed_tells entry.path answer) (read_tells told turn.0 now entries answers turn.2))
+
+  found_tells : (told : Option Content) (before now : ℕ) (path : PathBytes) (found : Found) → IsFound told before now path found → Tells (list_any is_failed (found_findings offset path found)) (found_failures found)
+  found_tells told before now path (file answer) asked = rw (or_false (is_failed (named path (outcome offset answer)))) (named_tells path answer)
+  found_tells told before now path unfound asked = tells_one
+  found_tells told before now path (folder entries answers) asked = read_tells told before now entries answers asked.2
+  found_tells told before now path unlisted asked = tells_one
+  found_tells told before now path nothing asked = tells_none
+
+  all_tells : (told : Option Content) (before now : ℕ) (paths : List PathBytes) (found : List Found) → AreFound told before now paths found
+      → Tells (list_any is_failed (all_findings offset paths found)) (all_failures found)
+  all_tells told before now [] [] kept = tells_none
+  all_tells told before now [] (f ∷ found) none = absurd none
+  all_tells told before now (path ∷ paths) [] none = absurd none
+  all_tells told before now (path ∷ paths) (f ∷ found) turn =
+      rw (list_any-append is_failed (found_findings offset path f) (all_findings offset paths found))
+      (tells_or (list_any is_failed (found_findings offset path f)) (list_any is_failed (all_findings offset paths found)) (found_failures f) (all_failures found)
+      (found_tells told before turn.0 path f turn.1) (all_tells told turn.0 now paths found turn.2))
+
+rose_one : (most before now n : ℕ) → 1 ≤ n → min (before + n) most ≤ now → min (before + 1) most ≤ now
+rose_one most before now n some rose = omega arith
+
+cause_by : (before now n : ℕ) (some none : Bool) → IsCounted before now n → Tells some n → EndHasCause before now (end_by some none)
+cause_by before now n true none counted tells = (counted.later, rose_one (2 ^ 64 - 1) before now n (tells.any refl) counted.rose)
+cause_by before now n false true counted tells = counted.kept (tells.none refl)
+cause_by before now n false false counted tells = counted.kept (tells.none refl)
+
+and_false : (b c : Bool) → c ≡ false → (b && c) ≡ false
+and_false true c e = e
+and_false false c e = refl
+
+not_true : (b : Bool) → b ≡ false → b ≡ true → ⊥
+not_true b e h = cc
+
+is_absent_end : (some none : Bool) → end_by some none ≡ ended.Absent → none ≡ true
+is_absent_end true none is = cc
+is_absent_end false true is = refl
+is_absent_end false false is = cc
+
+-- where nothing failed and all is told, nothing is absent
+complete_end : (before now : ℕ) (end : End) (told : Bool) → EndHasCause before now end → (end ≡ ended.Absent → told ≡ false) → told ≡ true → ¬ (Rose before now) → end ≡ ended.Ok
+complete_end before now ended.Ok told cause untold is quiet = refl
+complete_end before now ended.Failed told cause untold is quiet = absurd (quiet cause.1)
+complete_end before now ended.Absent told cause untold is quiet = absurd (not_true told (untold refl) is)
+
+gone : (o : Option File) (entry : Entry) → o ≡ None → option_map (λ (f : File). f.0) o ≡ Some entry → ⊥
+gone None entry none some = cc
+gone (Some f) entry none some = cc
+
+module _ (content : Content) (offset : ℤ) where
+  absent_untold : (before now : ℕ) (paths : List PathBytes) (answers : List Answer) → AreAsked (Some content) before now paths answers
+      → list_any is_absent (asked_findings offset paths answers) ≡ true → tells_files content paths ≡ false
+  absent_untold before now [] [] kept is = cc
+  absent_untold before now [] (answer ∷ answers) none is = absurd none
+  absent_untold before now (path ∷ paths) [] none is = absurd none
+  absent_untold before now (path ∷ paths) (given entry bytes ∷ answers) turn is =
+      and_false (tells_file content path) (tells_files content paths) (absent_untold turn.0 now paths answers turn.2 (rw (there_named path (import entry bytes offset)) at is))
+  absent_untold before now (path ∷ paths) (absent ∷ answers) turn is = rw turn.1.1 refl
+  absent_untold before now (path ∷ paths) (failed ∷ answers) turn is =
+      and_false (tells_file content path) (tells_files content paths) (absent_untold turn.0 now paths answers turn.2 is)
+
+  found_untold : (before now : ℕ) (path : PathBytes) (found : Found) → IsFound (Some content) before now path found
+      → list_any is_absent (found_findings offset path found) ≡ true → tells content path ≡ false
+  found_untold before now path (file (given entry bytes)) asked is = absurd (not_true _ (or_false _ ∙ there_named path (import entry bytes offset)) is)
+  found_untold before now path (file absent) asked is =
+      let none : file_at content.files path ≡ None = subst (λ (p : PathBytes). file_at content.files p ≡ None) asked.1.named asked.2.2 in
+      absurd (gone (file_at content.files path) asked.0 none asked.1.known)
+  found_untold before now path (file failed) asked is = cc
+  found_untold before now path unfound asked is = cc
+  found_untold before now path (folder entries answers) asked is = absurd (not_true _ (there_listed entries answers offset) is)
+  found_untold before now path unlisted asked is = cc
+  found_untold before now path nothing asked is = rw (asked.1, asked.2) refl
+
+  or_true : (b c : Bool) → (b || c) ≡ true → b ≡ false → c ≡ true
+  or_true true c is none = cc
+  or_true false c is none = is
+
+  all_untold : (before now : ℕ) (paths : List PathBytes) (found : List Found) → AreFound (Some content) before now paths found
+      → list_any is_absent (all_findings offset paths found) ≡ true → tells_all content paths ≡ false
+  all_untold before now [] [] kept is = cc
+  all_untold before now [] (f ∷ found) none is = absurd none
+  all_untold before now (path ∷ paths) [] none is = absurd none
+  all_untold before now (path ∷ paths) (f ∷ found) turn is =
+      elim (list_any is_absent (found_findings offset path f)) as (λ b. list_any is_absent (found_findings offset path f) ≡ b → tells_all content (path ∷ paths) ≡ false) [
+        | true ↦ λ here. rw (found_untold before turn.0 path f turn.1 here) refl
+        | false ↦
+            λ here.
+            let joined = sym (list_any-append is_absent (found_findings offset path f) (all_findings offset paths found)) ∙ is in
+            and_false (tells content path) (tells_all content paths) (all_untold turn.0 now paths found turn.2 (or_true (list_any is_absent (found_findings offset path f)) (list_any is_absent (all_findings offset paths found)) joined here))
+      ] refl
+
+module _ (before now : ℕ) (offset : ℤ) (raw : Bool) (marker : List ℕ) (names : List (List ℕ)) (paths : List PathBytes) (report : Report) where
+  pub shows_cause : (told : Option Content) → Shows told before now offset raw marker names paths report → EndHasCause before now report.end
+  shows_cause told shows =
+      rw shows.is
+      (cause_by before now (failures shows.answers) (list_any is_failed (asked_findings offset paths shows.answers)) (list_any is_absent (asked_findings offset paths shows.answers))
+      (are_asked_counted told before now paths shows.answers shows.asked) (asked_tells offset told before now paths shows.answers shows.asked))
+
+  shows_untold : (content : Content) → Shows (Some content) before now offset raw marker names paths report → report.end ≡ ended.Absent → tells_files content paths ≡ false
+  shows_untold content shows is =
+      absent_untold content offset before now paths shows.answers shows.asked
+      (is_absent_end (list_any is_failed (asked_findings offset paths shows.answers)) (list_any is_absent (asked_findings offset paths shows.answers)) (ap (λ (r : Report). r.end) (sym shows.is) ∙ is))
+
+  pub shows_absent : (told : Option Content) → Shows told before now offset raw marker names paths report → IfSome told (λ content. report.end ≡ ended.Absent → tells_files content paths ≡ false)
+  shows_absent None shows = tt
+  shows_absent (Some content) shows = shows_untold content shows
+
+  pub shows_complete : (told : Option Content) → Shows told before now offset raw marker names paths report
+      → IfSome told (λ content. tells_files content paths ≡ true → ¬ (Rose before now) → report.end ≡ ended.Ok)
+  shows_complete None shows = tt
+  shows_complete (Some content) shows = λ told quiet. complete_end before now report.end (tells_files content paths) (shows_cause (Some content) shows) (shows_untold content shows) told quiet
+
+module _ (before now : ℕ) (offset : ℤ) (paths : List PathBytes) (report : Report) where
+  pub imports_cause : (told : Option Content) → Imports told before now offset paths report → EndHasCause before now report.end
+  imports_cause told imports =
+      rw imports.is
+      (cause_by before now (all_failures imports.found) (list_any is_failed (all_findings offset paths imports.found)) (list_any is_absent (all_findings offset paths imports.found))
+      (are_found_counted told before now paths imports.found imports.asked) (all_tells offset told before now paths imports.found imports.asked))
+
+  imports_untold : (content : Content) → Imports (Some content) before now offset paths report → report.end ≡ ended.Absent → tells_all content paths ≡ false
+  imports_untold content imports is =
+      all_untold content offset before now paths imports.found imports.asked
+      (is_absent_end (list_any is_failed (all_findings offset paths imports.found)) (list_any is_absent (all_findings offset paths imports.found)) (ap (λ (r : Report). r.end) (sym imports.is) ∙ is))
+
+  pub imports_absent : (told : Option Content) → Imports told before now offset paths report → IfSome told (λ content. report.end ≡ ended.Absent → tells_all content paths ≡ false)
+  imports_absent None imports = tt
+  imports_absent (Some content) imports = imports_untold content imports
+
+  pub imports_complete : (told : Option Content) → Imports told before now offset paths report
+      → IfSome told (λ content. tells_all content paths ≡ true → ¬ (Rose before now) → report.end ≡ ended.Ok)
+  imports_complete None imports = tt
+  imports_complete (Some content) imports = λ told quiet. complete_end before now report.end (tells_all content paths) (imports_cause (Some content) imports) (imports_untold content imports) told quiet

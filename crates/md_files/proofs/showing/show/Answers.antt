@@ -1,0 +1,52 @@
+use Rattle.std.proofs.Common.{◌≡◌, ◌∷◌, ◌++◌, ◌||◌, [], ◌+◌, ◌∙◌, List, Bool, is_some, take, subst, sym, ap, arith, rules, FitsSigned, w32}
+use Rattle.std.proofs.lemmas.Int.{to_z-of_z}
+use Rattle.std.proofs.lemmas.List.{take_all, take_more}
+use Rattle.md_value.specs.Values.{PathBytes}
+use Rattle.md_files.specs.Answers.{IsAsked, Gives}
+use Rattle.md_files.specs.Additions.{noted}
+use Rattle.md_files.specs.Findings.Finding.{named}
+use Rattle.md_files.specs.Reports.{Report, Shows}
+use Rattle.md_files.proofs.ShownFiles.{IsShowing, showing_more, shows_so}
+use Rattle.md_files.proofs.Causes.{shows_cause, shows_absent, shows_complete}
+use Rattle.md_files.proofs.showing.show.Goals as goal
+
+pub loop-path-preserved : goal.loop-path-preserved
+loop-path-preserved g c =
+    let fits : FitsSigned w32 c.args.offset = search rules in
+    let l = c.loop-path in
+    let told = g.T.Tree.content c.args.tree.now in
+    let before = g.T.Tree.faults c.args.tree.now in
+    let between = g.T.Tree.faults l.tree in
+    let now = g.T.Tree.faults c.ask_file.new.tree in
+    let paths = c.args.files.now in
+    let path = c.path-item.result in
+    let given = c.in_ok-asked.asked in
+    let asked = simp to_z-of_z at c.in_ok-asked.ensures.asked in
+    let so = simp to_z-of_z at l.invariant.shows in
+    let gives : Gives (IsAsked told between now path) c.args.offset given = rw (sym l.invariant.content) asked in
+    let fronts = take_more paths l.path-index path c.loop-path-test.true ∙ ap (λ (x : PathBytes). take l.path-index paths ++ x ∷ []) (sym c.path-item.is) in
+    let more = showing_more told before c.args.offset c.args.raw c.args.marker.now c.args.names.now between now (take l.path-index paths) l.report l.some path given so gives in
+    let is = c.in_ok-add_named.ensures ∙ ap (λ (r : Report). noted r (named path given)) c.in_ok-some.ensures.text in
+    let shows : IsShowing told before now c.args.offset c.args.raw c.args.marker.now c.args.names.now (take (l.path-index + 1) paths) c.add_named.new.self c.in_ok-some.some =
+    subst (λ (r : Report). IsShowing told before now c.args.offset c.args.raw c.args.marker.now c.args.names.now (take (l.path-index + 1) paths) r c.in_ok-some.some) (sym is)
+    (rw (fronts, c.in_ok-some.ensures.some) more) in
+    record {
+      content = c.in_ok-asked.ensures.content ∙ l.invariant.content;
+      later = omega (arith, l.invariant.later, c.in_ok-asked.ensures.later);
+      shows = simp to_z-of_z shows;
+    }
+
+pub returns-clause-cause : goal.returns-clause-cause
+returns-clause-cause g c = shows_cause _ _ _ _ _ _ _ _ _ (shows_so c.loop-path.invariant.shows)
+
+pub returns-clause-absent : goal.returns-clause-absent
+returns-clause-absent g c =
+    let all : take c.loop-path.path-index c.args.files.now ≡ c.args.files.now = take_all c.loop-path.path-index c.args.files.now (omega arith) in
+    let shows = rw all at c.loop-path.invariant.shows in
+    shows_absent _ _ _ _ _ _ c.args.files.now _ _ (shows_so shows)
+
+pub returns-clause-complete : goal.returns-clause-complete
+returns-clause-complete g c =
+    let all : take c.loop-path.path-index c.args.files.now ≡ c.args.files.now = take_all c.loop-path.path-index c.args.files.now (omega arith) in
+    let shows = rw all at c.loop-path.invariant.shows in
+    shows_complete _ _ _ _ _ _ c.args.files.now _ _ (shows_so shows)

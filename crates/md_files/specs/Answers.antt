@@ -1,0 +1,100 @@
+-- What a tree answers where it is asked for a file, and how its count of faults stands before and after.
+use Rattle.std.specs.Prelude.{◌≡◌, ℕ, ◌+◌, ◌-◌, ◌^◌, ◌≤◌, min, ℤ, Bool, true, false, List, [], ◌∷◌, length, count_by, IfSome, Option, Some, None, Result, Ok, Err}
+use Rattle.md_value.specs.Values.{PathBytes, IsMoment}
+use Rattle.md_value.specs.Attrs.{Attr}
+use Rattle.md_value.specs.declared.fault.Fault.{Fault}
+use Rattle.md_source.specs.Causes.{Rose}
+use Rattle.md_source.specs.Tree.{Content, file_at, entry_at, bytes_at}
+use Rattle.md_source.specs.declared.tree.Entry.{Entry}
+use Rattle.imp_kind.specs.Kinds.{kind_of, is_imported}
+use Rattle.imp_kind.specs.Imports.{import}
+use Rattle.md_files.specs.declared.asking.Asked.{Asked}
+use Rattle.md_files.specs.declared.asking.Asked.TheVariants as asked
+
+-- an answer to the asking of a file: its entry with its bytes, or that it is absent, or that a call failed
+pub data Answer : Type 0 where
+  given : Entry → List ℕ → Answer
+  absent : Answer
+  failed : Answer
+
+-- whether the bytes of a file are read: no importer looks at those of another kind
+abbrev pub is_read : PathBytes → Bool
+is_read path = is_imported (kind_of path)
+
+-- the most bytes of a file that are read, one more than are imported
+abbrev pub most_read : ℕ
+most_read = 16_777_217
+
+-- the count of faults rose
+abbrev pub Fails : ℕ → ℕ → Type 0
+Fails before now = (before ≤ now) × Rose before now
+
+-- an entry of the path; where the content is told, that of its file
+pub record IsEntry (told : Option Content) (path : PathBytes) (entry : Entry) : Type 0 where
+  pub named : entry.path ≡ path
+  pub moment : IsMoment entry.changed
+  pub known : IfSome told (λ content. entry_at content.files path ≡ Some entry)
+
+-- the bytes that are read of a file: none where they are not read; where the content is told, the first of its file
+pub record IsFront (told : Option Content) (path : PathBytes) (bytes : List ℕ) : Type 0 where
+  pub most : length bytes ≤ most_read
+  pub unread : is_read path ≡ false → bytes ≡ []
+  pub known : is_read path ≡ true → IfSome told (λ content. bytes_at content.files path most_read ≡ Some bytes)
+
+-- where the content is told, no file has the path
+abbrev pub HasNoFile : Option Content → PathBytes → Type 0
+HasNoFile told path = IfSome told (λ content. file_at content.files path ≡ None)
+
+-- the answer to the asking of a file by its path
+abbrev pub IsAsked : Option Content → ℕ → ℕ → PathBytes → Answer → Type 0
+IsAsked told before now path (given entry bytes) = (now ≡ before) × IsEntry told path entry × IsFront told path bytes
+IsAsked told before now path absent = (now ≡ before) × HasNoFile told path
+IsAsked told before now path failed = Fails before now
+
+-- the answer to the asking of a file whose entry is known; one that is not read is given with no call
+abbrev pub IsRead : Option Content → ℕ → ℕ → Entry → Answer → Type 0
+IsRead told before now entry (given found bytes) = (now ≡ before) × (found ≡ entry) × IsFront told entry.path bytes
+IsRead told before now entry absent = (now ≡ before) × (is_read entry.path ≡ true) × HasNoFile told entry.path
+IsRead told before now entry failed = Fails before now × (is_read entry.path ≡ true)
+
+-- askings in turn, each from the count of faults at which the one before it ended
+abbrev pub InTurn : {A B : Type 0} → (ℕ → ℕ → A → B → Type 0) → ℕ → ℕ → List A → List B → Type 0
+InTurn Asks before now [] [] = now ≡ before
+InTurn Asks before now (x ∷ xs) (y ∷ ys) = (between : ℕ) × Asks before between x y × InTurn Asks between now xs ys
+InTurn Asks before now _ _ = ⊥
+
+-- the answers to the askings of files by their paths
+abbrev pub AreAsked : Option Content → ℕ → ℕ → List PathBytes → List Answer → Type 0
+AreAsked told before now paths answers = InTurn (IsAsked told) before now paths answers
+
+-- what an import gives
+abbrev pub of_import : Result (List Attr) Fault → Asked
+of_import (Ok attrs) = asked.Attrs attrs
+of_import (Err fault) = asked.Fault fault
+
+-- what an answer gives: the import of the file, with a date alone in an offset from UTC in minutes
+abbrev pub outcome : ℤ → Answer → Asked
+outcome offset (given entry bytes) = of_import (import entry bytes offset)
+outcome offset absent = asked.Absent
+outcome offset failed = asked.Failed
+
+-- it is what one of these answers gives
+pub record Gives (Answers : Answer → Type 0) (offset : ℤ) (result : Asked) : Type 0 where
+  pub answer : Answer
+  pub answers : Answers answer
+  pub is : result ≡ outcome offset answer
+
+-- whether an asking failed
+abbrev pub has_failed : Answer → Bool
+has_failed failed = true
+has_failed _ = false
+
+-- how many askings failed
+abbrev pub failures : List Answer → ℕ
+failures answers = count_by has_failed answers
+
+-- so many askings failed: the count of faults rose by no less, unless it stands at its type's end, and stands where none failed
+pub record IsCounted (before now count : ℕ) : Type 0 where
+  pub later : before ≤ now
+  pub rose : min (before + count) (2 ^ 64 - 1) ≤ now
+  pub kept : count ≡ 0 → now ≡ before

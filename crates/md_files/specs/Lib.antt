@@ -1,0 +1,6 @@
+pub mod Answers
+pub mod Folders
+pub mod Findings
+pub mod Reports
+pub mod Additions
+pub mod Tables

@@ -1,0 +1,146 @@
+// What a tool makes of files.
+ghost use Rattle.std.specs.Prelude.{◌≡◌, ◌∷◌, ◌++◌, OnOk};
+ghost use Rattle.md_print.specs.Faults.{fault_text, failure_text};
+ghost use Rattle.md_files.specs.Findings.Finding.{named, listed, no_listing};
+ghost use Rattle.md_files.specs.Additions.{no_report, worse, noted};
+
+use crate::Asked;
+use md_print::{Failure, failure_text, fault_text};
+use md_value::{Fault, Path};
+use std::alloc::{AllocError, Global};
+use std::marker::Model;
+
+/// How the askings of a tool ended.
+#[derive(Clone, Copy, Debug, PartialEq, Eq)]
+pub enum End {
+    /// No asking failed, and no named path is absent.
+    Ok,
+    /// Some asking failed.
+    Failed,
+    /// No asking failed, and some named path is absent.
+    Absent,
+}
+
+/// How the askings of a tool ended, and what it prints.
+#[derive(Debug, Drop)]
+pub struct Report {
+    pub end: End,
+    pub out: String,
+    pub err: String,
+}
+
+impl Model for Report {
+    ghost use Rattle.std.specs.Prelude.{string_bytes};
+    ghost use Rattle.md_files.specs.Reports as reports;
+
+    ghost Value = { reports.Report };
+
+    ghost view = { λ r. record { end = r.end; out = string_bytes r.out; err = string_bytes r.err } };
+}
+
+// The worse of two ends.
+fn worse(end: End, other: End) -> End
+    ensures { result ≡ worse end other }
+{
+    match (end, other) {
+        (End::Ok, other) => other,
+        (End::Failed, _) | (End::Absent, End::Failed) => End::Failed,
+        (End::Absent, _) => End::Absent,
+    }
+}
+
+impl Report {
+    /// Nothing asked and nothing printed. Takes no memory.
+    pub(crate) fn new(alloc: Global) -> Report
+        ensures { result ≡ no_report }
+    {
+        Report {
+            end: End::Ok,
+            out: String::new(alloc),
+            err: String::new(alloc),
+        }
+    }
+
+    /// Appends to the text for out.
+    pub(crate) fn push_out(&mut self, text: &str) -> Result<(), AllocError>
+        ensures { OnOk result (self.new ≡ record self.old { out = self.old.out ++ text.now }) }
+    {
+        self.out.push_str(text)
+    }
+
+    fn push_err(&mut self, line: &str) -> Result<(), AllocError>
+        ensures { OnOk result (self.new ≡ record self.old { err = self.old.err ++ line.now }) }
+    {
+        self.err.push_str(line)
+    }
+
+    fn worsen(&mut self, end: End)
+        ensures { self.new ≡ record self.old { end = worse self.old.end end } }
+    {
+        self.end = worse(self.end, end);
+    }
+
+    // Adds a file with a fault, which does not change how the askings ended.
+    fn add_fault(&mut self, alloc: Global, path: &Path, fault: &Fault) -> Result<(), AllocError>
+        ensures { OnOk result (self.new ≡ record self.old { err = self.old.err ++ fault_text path.now fault.now }) }
+    {
+        let line = fault_text(alloc, path, fault)?;
+        self.push_err(line.as_str())
+    }
+
+    // Adds a path from which nothing was had.
+    fn add_failure(
+        &mut self,
+        alloc: Global,
+        path: &Path,
+        failure: Failure,
+        end: End,
+    ) -> Result<(), AllocError>
+        ensures { OnOk result (self.new ≡ record self.old { end = worse self.old.end end; err = self.old.err ++ failure_text path.now failure }) }
+    {
+        let line = failure_text(alloc, path, failure)?;
+        self.worsen(end);
+        self.push_err(line.as_str())
+    }
+
+    /// Adds what became of a named file, but for the attributes that it gives.
+    pub(crate) fn add_named(
+        &mut self,
+        alloc: Global,
+        path: &Path,
+        asked: &Asked,
+    ) -> Result<(), AllocError>
+        ensures { OnOk result (self.new ≡ noted self.old (named path.now asked.now)) }
+    {
+        match asked {
+            Asked::Attrs(_) => Ok(()),
+            Asked::Fault(fault) => self.add_fault(alloc, path, fault),
+            Asked::Absent => self.add_failure(alloc, path, Failure::NotFound, End::Absent),
+            Asked::Failed => self.add_failure(alloc, path, Failure::NotRead, End::Failed),
+        }
+    }
+
+    /// Adds what became of a file of a listing, but for the attributes that it gives. One that is absent by now is passed
+    /// over.
+    pub(crate) fn add_listed(
+        &mut self,
+        alloc: Global,
+        path: &Path,
+        asked: &Asked,
+    ) -> Result<(), AllocError>
+        ensures { OnOk result (self.new ≡ noted self.old (listed path.now asked.now)) }
+    {
+        match asked {
+            Asked::Attrs(_) | Asked::Absent => Ok(()),
+            Asked::Fault(fault) => self.add_fault(alloc, path, fault),
+            Asked::Failed => self.add_failure(alloc, path, Failure::NotRead, End::Failed),
+        }
+    }
+
+    /// Adds a folder that could not be listed.
+    pub(crate) fn add_unlisted(&mut self, alloc: Global, path: &Path) -> Result<(), AllocError>
+        ensures { OnOk result (self.new ≡ noted self.old (no_listing path.now)) }
+    {
+        self.add_failure(alloc, path, Failure::NotListed, End::Failed)
+    }
+}
