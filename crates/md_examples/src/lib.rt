@@ -9,3 +9,5 @@ mod runs;
 mod scripts;
 #[cfg(test)]
 mod servers;
+#[cfg(test)]
+mod tools;

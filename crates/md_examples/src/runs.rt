@@ -1,6 +1,7 @@
-// A run of the top call over a source, a clock and sinks in memory.
-use md_source::{MemoryClock, MemorySink, MemorySource};
+// A run of the top call over a tree, a source, a clock and sinks in memory.
+use md_source::{Entry, MemoryClock, MemorySink, MemorySource, MemoryTree, is_content};
 use md_tool::{Status, run};
+use md_value::{Items, Path};
 use std::alloc::Global;
 use std::test::Fail;
 
@@ -52,7 +53,14 @@ pub fn no_fails(alloc: Global) -> Fails {
     }
 }
 
-pub fn run_words(alloc: Global, words: &[&str], script: &[u8], fails: Fails) -> Result<Ran, Fail> {
+/// Runs these words over a tree.
+pub fn run_over(
+    alloc: Global,
+    tree: &mut MemoryTree,
+    words: &[&str],
+    script: &[u8],
+    fails: Fails,
+) -> Result<Ran, Fail> {
     let mut owned = Vec::new(alloc);
     for word in words {
         owned.push(String::from_str(alloc, word)?)?;
@@ -61,12 +69,52 @@ pub fn run_words(alloc: Global, words: &[&str], script: &[u8], fails: Fails) -> 
     let mut clock = MemoryClock::new(NOW, fails.clock);
     let mut out = MemorySink::new(alloc, 4, fails.out);
     let mut err = MemorySink::new(alloc, 4, fails.err);
-    let outcome = run(alloc, &owned, &mut source, &mut clock, &mut out, &mut err);
+    let outcome = run(
+        alloc,
+        &owned,
+        tree,
+        &mut source,
+        &mut clock,
+        &mut out,
+        &mut err,
+    );
     Ok(Ran {
         status: outcome.status,
         out,
         err,
     })
+}
+
+fn file(alloc: Global, path: &str, content: &str) -> Result<(Entry, Items<u8>), Fail> {
+    let entry = Entry {
+        path: Path::read(alloc, path)?,
+        size: content.len() as u64,
+        changed: NOW,
+    };
+    let bytes = Vec::from_slice(alloc, content.as_bytes())?;
+    Ok((entry, Items::from_vec(bytes)))
+}
+
+/// A tree of the folder `docs` and these files, each changed at the clock's moment, which fails in its calls of these
+/// numbers.
+pub fn tree_of(alloc: Global, files: &[(&str, &str)], fails: Vec<u64>) -> Result<MemoryTree, Fail> {
+    let mut folders = Vec::new(alloc);
+    folders.push(Path::root(alloc))?;
+    folders.push(Path::read(alloc, "docs")?)?;
+    let mut made = Vec::new(alloc);
+    for (path, content) in files {
+        made.push(file(alloc, path, content)?)?;
+    }
+    if !is_content(alloc, &folders, &made) {
+        return Err(Fail::new("no tree holds these"));
+    }
+    Ok(MemoryTree::new(folders, made, fails))
+}
+
+/// Runs these words over a tree with no file.
+pub fn run_words(alloc: Global, words: &[&str], script: &[u8], fails: Fails) -> Result<Ran, Fail> {
+    let mut tree = tree_of(alloc, &[], Vec::new(alloc))?;
+    run_over(alloc, &mut tree, words, script, fails)
 }
 
 /// Runs `live` with no object that fails.

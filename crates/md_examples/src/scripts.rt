@@ -142,7 +142,12 @@ fn bad_lines_and_words_are_refused(rt: HostRuntime) -> Result<(), Fail> {
         ran.err.taken(),
         b"mdserve: line 2 not understood\n".as_slice()
     );
-    for words in [[].as_slice(), &["mdfind"], &["live", "live"], &["Live"]] {
+    for words in [
+        [].as_slice(),
+        &["mdfind", "x"],
+        &["live", "live"],
+        &["Live"],
+    ] {
         let ran = run_words(alloc, words, FIRST_SCRIPT.as_bytes(), no_fails(alloc))?;
         assert_eq!(rt;
             ran.err.taken(),

@@ -145,18 +145,19 @@ module _ (offset : ℤ) (old new : Inputs) where
       (ok.0, λ live. read'.end ok.1)
 
   pub live_tells : (r : Report) → Lives offset old new r → TellsFirst offset (tool.Live None) old new r.status
-  live_tells r lives =
-      (record {
-        usage = not_this status.Usage (λ x. cc) (λ x. cc) (λ x. cc) (λ x. cc) (λ x. cc) r lives;
-        live = λ is. refl;
-        expression = λ is. if_some old.script.told (λ left. IfSome old.clock.told (λ moment. HasFormOut moment offset left))
-            (λ left told. if_some old.clock.told (λ moment. HasFormOut moment offset left) (λ moment shows. form_live left told moment shows r lives is));
-        read_fault = fault_live r lives;
-        script = λ is. if_some old.script.told IsRefused (λ left told. script_live left told r lives is);
-        absent = λ is. absurd (not_this status.Absent (λ x. cc) (λ x. cc) (λ x. cc) (λ x. cc) (λ x. cc) r lives is);
-      },
-      not_this status.WriteFault (λ x. cc) (λ x. cc) (λ x. cc) (λ x. cc) (λ x. cc) r lives,
-      λ ready none. whole_live ready none r lives)
+  live_tells r lives = (
+    record {
+      usage = not_this status.Usage (λ x. cc) (λ x. cc) (λ x. cc) (λ x. cc) (λ x. cc) r lives;
+      live = λ is. refl;
+      expression = λ is. if_some old.script.told (λ left. IfSome old.clock.told (λ moment. HasFormOut moment offset left))
+          (λ left told. if_some old.clock.told (λ moment. HasFormOut moment offset left) (λ moment shows. form_live left told moment shows r lives is));
+      read_fault = fault_live r lives;
+      script = λ is. if_some old.script.told IsRefused (λ left told. script_live left told r lives is);
+      absent = λ is. absurd (not_this status.Absent (λ x. cc) (λ x. cc) (λ x. cc) (λ x. cc) (λ x. cc) r lives is);
+    },
+    not_this status.WriteFault (λ x. cc) (λ x. cc) (λ x. cc) (λ x. cc) (λ x. cc) r lives,
+    λ ready none. whole_live ready none r lives,
+  )
 
 -- A tool on files tells by how its askings ended.
 module _ (offset : ℤ) (what : Tool) (old new : Inputs) where
@@ -193,21 +194,23 @@ module _ (offset : ℤ) (what : Tool) (old new : Inputs) where
       → IfSome old.tree.told (λ content. end ≡ ended.Absent → tells_named content what ≡ false)
       → IfSome old.tree.told (λ content. tells_named content what ≡ true → ¬ (TreeFails old.tree new.tree) → end ≡ ended.Ok)
       → TellsFirst offset what old new (status_of end)
-  files_tell names other end cause absent ok =
-      (record {
-        usage = no_tool end status.Usage (λ x. cc) (λ x. cc) (λ x. cc);
-        live = λ is. absurd (no_tool end status.Expression (λ x. cc) (λ x. cc) (λ x. cc) is);
-        expression = λ is. absurd (no_tool end status.Expression (λ x. cc) (λ x. cc) (λ x. cc) is);
-        read_fault = fault_end end cause;
-        script = λ is. absurd (no_tool end status.Script (λ x. cc) (λ x. cc) (λ x. cc) is);
-        absent = λ is. if_absent end old.tree.told absent (absent_end end is);
-      },
-      no_tool end status.WriteFault (λ x. cc) (λ x. cc) (λ x. cc),
-      λ ready none. (ap status_of (let named = names ready in told_ok end old.tree.told named.0 named.1 named.2 ok (λ rose. none (inl rose))), λ live. absurd (other live)))
+  files_tell names other end cause absent ok = (
+    record {
+      usage = no_tool end status.Usage (λ x. cc) (λ x. cc) (λ x. cc);
+      live = λ is. absurd (no_tool end status.Expression (λ x. cc) (λ x. cc) (λ x. cc) is);
+      expression = λ is. absurd (no_tool end status.Expression (λ x. cc) (λ x. cc) (λ x. cc) is);
+      read_fault = fault_end end cause;
+      script = λ is. absurd (no_tool end status.Script (λ x. cc) (λ x. cc) (λ x. cc) is);
+      absent = λ is. if_absent end old.tree.told absent (absent_end end is);
+    },
+    no_tool end status.WriteFault (λ x. cc) (λ x. cc) (λ x. cc),
+    λ ready none. (ap status_of (let named = names ready in told_ok end old.tree.told named.0 named.1 named.2 ok (λ rose. none (inl rose))), λ live. absurd (other live)),
+  )
 
 -- A list that is asked of nothing tells that all is printed.
 pub plain_tells : (offset : ℤ) (what : Tool) (old new : Inputs) → ¬ (IsLive what) → TellsFirst offset what old new status.Ok
-plain_tells offset what old new other =
-    (record { usage = λ x. cc; live = λ x. cc; expression = λ x. cc; read_fault = λ x. cc; script = λ x. cc; absent = λ x. cc },
-    λ x. cc,
-    λ ready none. (refl, λ live. absurd (other live)))
+plain_tells offset what old new other = (
+  record { usage = λ x. cc; live = λ x. cc; expression = λ x. cc; read_fault = λ x. cc; script = λ x. cc; absent = λ x. cc },
+  λ x. cc,
+  λ ready none. (refl, λ live. absurd (other live)),
+)

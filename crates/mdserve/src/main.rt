@@ -1,7 +1,7 @@
 //! The metadata server's program.
 #![tactic(auto)]
 
-use md_source::{MachineClock, Reading, Writing};
+use md_source::{Folder, MachineClock, Reading, Writing};
 use md_tool::{Status, run};
 use std::alloc::Global;
 use std::env;
@@ -31,7 +31,16 @@ fn main(rt: HostRuntime) -> ExitCode {
     let mut script = Reading::new(rt.stdin());
     let mut out = Writing::new(rt.stdout());
     let mut err = Writing::new(rt.stderr());
+    let mut tree = Folder::new(rt.clone());
     let mut clock = MachineClock::new(rt);
-    let outcome = run(alloc, &words, &mut script, &mut clock, &mut out, &mut err);
+    let outcome = run(
+        alloc,
+        &words,
+        &mut tree,
+        &mut script,
+        &mut clock,
+        &mut out,
+        &mut err,
+    );
     ExitCode::from(outcome.status.code())
 }
