@@ -2,6 +2,7 @@
 
 import pathlib
 import shutil
+import subprocess
 
 ROOT = pathlib.Path(__file__).resolve().parents[1]
 
@@ -32,3 +33,10 @@ def write(top, used, program):
     (folder / "src").mkdir(parents=True)
     (folder / "src" / "main.rt").write_text(program)
     return folder
+
+
+def build(top, used, program):
+    """Writes the program over these crates, builds it, and answers its file."""
+    folder = write(top, used, program)
+    subprocess.run(["rt", "run"], cwd=folder, check=True, stdout=subprocess.DEVNULL)
+    return folder / "out" / "speed"

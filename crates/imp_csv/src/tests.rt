@@ -113,6 +113,14 @@ fn gives_attributes(rt: HostRuntime) -> Result<(), Fail> {
             "kMDItemComment 'x\ny, \"z\"'; kMDItemTextContent 'kMDItemComment x\ny, \"z\"'; md_csv_columns 1; md_csv_rows 1; ",
         ),
         (
+            "kMDItemComment\r\n\"x\r\ny\"\r\n",
+            "kMDItemComment 'x\r\ny'; kMDItemTextContent 'kMDItemComment x\r\ny'; md_csv_columns 1; md_csv_rows 1; ",
+        ),
+        (
+            "kMDItemTitle,kMDItemTitle\n,x\n",
+            "kMDItemTextContent 'kMDItemTitle kMDItemTitle  x'; kMDItemTitle 'x'; md_csv_columns 2; md_csv_rows 1; ",
+        ),
+        (
             "kMDItemAuthors,x,kMDItemAuthors\nAnn,1,Bob\n,2,Cid\n",
             "kMDItemAuthors 'Ann' 'Bob' 'Cid'; kMDItemTextContent 'kMDItemAuthors x kMDItemAuthors Ann 1 Bob  2 Cid'; md_csv_columns 3; md_csv_rows 2; ",
         ),

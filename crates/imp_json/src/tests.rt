@@ -44,6 +44,58 @@ fn shown(alloc: Global, text: &str, offset: i32) -> Result<String, Fail> {
     }
 }
 
+// The kind of fault of an object with this one member, if there is one.
+fn fault_of(alloc: Global, name: &str, value: &str) -> Result<&'static str, Fail> {
+    let text = format!(in alloc; "{{\"{name}\": {value}}}")?;
+    match fill(alloc, text.as_str(), 0) {
+        Ok(_) => Ok(""),
+        Err(FillFault::Fault(Fault::BadKind(_))) => Ok("BadKind"),
+        Err(FillFault::Fault(Fault::BadDate(_))) => Ok("BadDate"),
+        Err(FillFault::Fault(Fault::NotSingle(_))) => Ok("NotSingle"),
+        Err(_) => Err(Fail::new("another fault")),
+    }
+}
+
+#[test]
+fn knows_each_attribute(rt: HostRuntime) -> Result<(), Fail> {
+    let alloc = rt.alloc();
+    let rows = [
+        // name, the fault of a text, that of an array with an object
+        ("kMDItemAuthors", "", "BadKind"),
+        ("kMDItemComment", "", "NotSingle"),
+        ("kMDItemContentCreationDate", "BadDate", "NotSingle"),
+        ("kMDItemContentType", "", ""),
+        ("kMDItemContentTypeTree", "", ""),
+        ("kMDItemCopyright", "", "NotSingle"),
+        ("kMDItemCreator", "", "NotSingle"),
+        ("kMDItemDescription", "", "NotSingle"),
+        ("kMDItemDisplayName", "", ""),
+        ("kMDItemDueDate", "BadDate", "NotSingle"),
+        ("kMDItemFSContentChangeDate", "", ""),
+        ("kMDItemFSName", "", ""),
+        ("kMDItemFSSize", "", ""),
+        ("kMDItemKeywords", "", "BadKind"),
+        ("kMDItemKind", "", ""),
+        ("kMDItemLanguages", "", "BadKind"),
+        ("kMDItemNumberOfPages", "BadKind", "NotSingle"),
+        ("kMDItemPath", "", ""),
+        ("kMDItemPublishers", "", "BadKind"),
+        ("kMDItemRecipients", "", "BadKind"),
+        ("kMDItemStarRating", "BadKind", "NotSingle"),
+        ("kMDItemTextContent", "", ""),
+        ("kMDItemTitle", "", "NotSingle"),
+        ("md_csv_columns", "", ""),
+        ("md_csv_rows", "", ""),
+        ("md_imported", "", ""),
+        ("notes", "", ""),
+    ];
+    for (name, text, array) in rows {
+        assert_eq!(rt; fault_of(alloc, name, "\"x\"")?, text, "{name}");
+        assert_eq!(rt; fault_of(alloc, name, "[{}]")?, array, "{name}");
+    }
+    Ok(())
+}
+
 #[test]
 fn finds_the_first_fault(rt: HostRuntime) -> Result<(), Fail> {
     let alloc = rt.alloc();

@@ -56,6 +56,12 @@ fn value_of(
     }
 }
 
+fn is_given(json: &Json) -> bool
+    ensures { result ≡ is_given (view json.now) }
+{
+    !json.is_null()
+}
+
 // The values of the members that are not null.
 fn values_in(
     alloc: Global,
@@ -68,7 +74,7 @@ fn values_in(
 {
     let mut values = Items::new(alloc);
     for member in members {
-        if !member.is_null() {
+        if is_given(member) {
             values.push(value_of(alloc, name, kind, offset, member)?)?;
         }
     }

@@ -96,6 +96,125 @@ fn imports_files(rt: HostRuntime) -> Result<(), Fail> {
     Ok(())
 }
 
+// An object with each attribute of the schema once; no file sets the last twelve.
+fn whole_object() -> &'static str {
+    concat!(
+        "{\"kMDItemTitle\": \"title\", \"kMDItemStarRating\": 5, ",
+        "\"kMDItemRecipients\": [\"Fay\", \"Gus\"], \"kMDItemPublishers\": [\"Eva\"], ",
+        "\"kMDItemNumberOfPages\": -12, \"kMDItemLanguages\": \"en\", ",
+        "\"kMDItemKeywords\": [\"red\", \"blue\"], \"kMDItemDueDate\": \"2024-03-15\", ",
+        "\"kMDItemDescription\": \"description\", \"kMDItemCreator\": \"creator\", ",
+        "\"kMDItemCopyright\": \"copyright\", ",
+        "\"kMDItemContentCreationDate\": \"2024-03-15T11:00:00+0100\", ",
+        "\"kMDItemComment\": \"comment\", \"kMDItemAuthors\": [\"Ann\", \"Bob\"], ",
+        "\"kMDItemContentType\": 1, \"kMDItemContentTypeTree\": 1, \"kMDItemDisplayName\": 1, ",
+        "\"kMDItemFSContentChangeDate\": 1, \"kMDItemFSName\": 1, \"kMDItemFSSize\": 1, ",
+        "\"kMDItemKind\": 1, \"kMDItemPath\": 1, \"kMDItemTextContent\": 1, ",
+        "\"md_csv_columns\": \"columns\", \"md_csv_rows\": \"rows\", \"md_imported\": \"flag\"}"
+    )
+}
+
+fn whole_object_attributes() -> &'static str {
+    concat!(
+        "kMDItemAuthors 'Ann' 'Bob'; kMDItemComment 'comment'; ",
+        "kMDItemContentCreationDate @1710496800; kMDItemContentType 'public.json'; ",
+        "kMDItemContentTypeTree 'public.json' 'public.text' 'public.data' 'public.item' ",
+        "'public.content'; kMDItemCopyright 'copyright'; kMDItemCreator 'creator'; ",
+        "kMDItemDescription 'description'; kMDItemDisplayName 'b.json'; ",
+        "kMDItemDueDate @1710460800; kMDItemFSContentChangeDate @1710496800; ",
+        "kMDItemFSName 'b.json'; kMDItemFSSize 747; kMDItemKeywords 'red' 'blue'; ",
+        "kMDItemKind 'JSON Document'; kMDItemLanguages 'en'; kMDItemNumberOfPages -12; ",
+        "kMDItemPath 'a/b.json'; kMDItemPublishers 'Eva'; kMDItemRecipients 'Fay' 'Gus'; ",
+        "kMDItemStarRating 5; kMDItemTextContent 'Ann Bob comment 2024-03-15T11:00:00+0100 ",
+        "copyright creator description 2024-03-15 red blue en Eva Fay Gus title ",
+        "columns rows flag'; kMDItemTitle 'title'; md_imported true; "
+    )
+}
+
+// A table with a column for each attribute of the schema.
+fn whole_table() -> &'static str {
+    concat!(
+        "kMDItemAuthors,kMDItemComment,kMDItemContentCreationDate,kMDItemContentType,",
+        "kMDItemContentTypeTree,kMDItemCopyright,kMDItemCreator,kMDItemDescription,",
+        "kMDItemDisplayName,kMDItemDueDate,kMDItemFSContentChangeDate,kMDItemFSName,",
+        "kMDItemFSSize,kMDItemKeywords,kMDItemKind,kMDItemLanguages,kMDItemNumberOfPages,",
+        "kMDItemPath,kMDItemPublishers,kMDItemRecipients,kMDItemStarRating,",
+        "kMDItemTextContent,kMDItemTitle,md_csv_columns,md_csv_rows,md_imported\n",
+        "Ann,comment,2024-03-15T11:00:00+0100,1,1,copyright,creator,description,1,",
+        "2024-03-15,1,1,1,red,1,en,-12,1,Eva,Fay,5,1,title,1,1,1\n",
+        "Bob,,,,,,,,,,,,,blue,,,,,,Gus,,,,,,\n"
+    )
+}
+
+fn whole_table_attributes() -> &'static str {
+    concat!(
+        "kMDItemAuthors 'Ann' 'Bob'; kMDItemComment 'comment'; ",
+        "kMDItemContentCreationDate @1710496800; ",
+        "kMDItemContentType 'public.comma-separated-values-text'; ",
+        "kMDItemContentTypeTree 'public.comma-separated-values-text' 'public.text' ",
+        "'public.data' 'public.item' 'public.content'; kMDItemCopyright 'copyright'; ",
+        "kMDItemCreator 'creator'; kMDItemDescription 'description'; ",
+        "kMDItemDisplayName 'b.csv'; kMDItemDueDate @1710460800; ",
+        "kMDItemFSContentChangeDate @1710496800; kMDItemFSName 'b.csv'; kMDItemFSSize 607; ",
+        "kMDItemKeywords 'red' 'blue'; kMDItemKind 'Comma-Separated Values Document'; ",
+        "kMDItemLanguages 'en'; kMDItemNumberOfPages -12; kMDItemPath 'a/b.csv'; ",
+        "kMDItemPublishers 'Eva'; kMDItemRecipients 'Fay' 'Gus'; kMDItemStarRating 5; ",
+        "kMDItemTextContent 'kMDItemAuthors kMDItemComment kMDItemContentCreationDate ",
+        "kMDItemContentType kMDItemContentTypeTree kMDItemCopyright kMDItemCreator ",
+        "kMDItemDescription kMDItemDisplayName kMDItemDueDate kMDItemFSContentChangeDate ",
+        "kMDItemFSName kMDItemFSSize kMDItemKeywords kMDItemKind kMDItemLanguages ",
+        "kMDItemNumberOfPages kMDItemPath kMDItemPublishers kMDItemRecipients ",
+        "kMDItemStarRating kMDItemTextContent kMDItemTitle md_csv_columns md_csv_rows ",
+        "md_imported Ann comment 2024-03-15T11:00:00+0100 1 1 copyright creator description ",
+        "1 2024-03-15 1 1 1 red 1 en -12 1 Eva Fay 5 1 title 1 1 1 ",
+        "Bob             blue      Gus      '; kMDItemTitle 'title'; md_csv_columns 26; ",
+        "md_csv_rows 2; md_imported true; "
+    )
+}
+
+#[test]
+fn sets_each_attribute(rt: HostRuntime) -> Result<(), Fail> {
+    let alloc = rt.alloc();
+    let object = shown(alloc, "a/b.json", 747, whole_object().as_bytes())?;
+    assert_eq!(rt; object.as_str(), whole_object_attributes());
+    let table = shown(alloc, "a/b.csv", 607, whole_table().as_bytes())?;
+    assert_eq!(rt; table.as_str(), whole_table_attributes());
+    Ok(())
+}
+
+// The text content that an import gives, or its fault.
+fn content_of(alloc: Global, path: &str, bytes: &[u8]) -> Result<String, Fail> {
+    let shown = shown(alloc, path, 0, bytes)?;
+    let content = match shown.split_once("kMDItemTextContent ") {
+        Some((_, rest)) => rest.split(';').next().unwrap_or(""),
+        None => shown.as_str(),
+    };
+    Ok(String::from_str(alloc, content)?)
+}
+
+#[test]
+fn drops_one_mark(rt: HostRuntime) -> Result<(), Fail> {
+    let alloc = rt.alloc();
+    let rows = [
+        ("a.txt", "\u{feff}x", "'x'"),
+        ("a.txt", "\u{feff}\u{feff}x", "'\u{feff}x'"),
+        ("a.txt", "x\u{feff}", "'x\u{feff}'"),
+        ("a.json", "\u{feff}{\"a\": \"x\"}", "'x'"),
+        ("a.json", "\u{feff}\u{feff}{\"a\": \"x\"}", "NotJson"),
+        ("a.csv", "\u{feff}x\n", "'x'"),
+        ("a.csv", "\u{feff}\u{feff}x\n", "'x'"),
+        ("a.csv", "\u{feff}\u{feff}\u{feff}x\n", "'\u{feff}x'"),
+    ];
+    for (path, text, want) in rows {
+        assert_eq!(rt;
+            content_of(alloc, path, text.as_bytes())?.as_str(),
+            want,
+            "{path} {text}"
+        );
+    }
+    Ok(())
+}
+
 fn faults(alloc: Global, size: u64, bytes: &[u8]) -> Result<String, Fail> {
     shown(alloc, "a.json", size, bytes)
 }
@@ -119,8 +238,8 @@ fn finds_the_first_fault(rt: HostRuntime) -> Result<(), Fail> {
     assert_eq!(rt; faults(alloc, 0, b"\xff{}")?.as_str(), "NotUtf8 0");
     assert_eq!(rt; faults(alloc, 9, b"\"\xc3\xa9\xc3")?.as_str(), "NotUtf8 3");
     assert_eq!(rt;
-        faults(alloc, 8, b"\xef\xbb\xbf\xef\xbb\xbf{}")?.as_str(),
-        "NotJson"
+        faults(alloc, 0, b"\xef\xbb\xbf\xff")?.as_str(),
+        "NotUtf8 3"
     );
     assert_eq!(rt; shown(alloc, "a.csv", 0, b"a,b\nc\n")?.as_str(), "Uneven 2");
     Ok(())

@@ -1,4 +1,4 @@
-use Rattle.std.proofs.Common.{◌≡◌, ◌++◌, map, filter, drop, not, true, sym, ap, ◌∙◌, FitsSigned, w32, ◌+◌}
+use Rattle.std.proofs.Common.{◌≡◌, ◌++◌, map, filter, drop, true, sym, ap, ◌∙◌, FitsSigned, w32, ◌+◌}
 use Rattle.std.proofs.lemmas.Int.{to_z-of_z}
 use Rattle.std.proofs.lemmas.Result.{err_from_is_err_and}
 use Rattle.serde_json.specs.View.{view}
@@ -14,7 +14,7 @@ returns-in_err-value_of c =
     let p = err_from_is_err_and c.from_residual.result c.from_residual.ensures.1 in
     let all = simp to_z-of_z at c.loop-member.invariant in
     let cause = simp to_z-of_z at c.in_err-value_of.ensures in
-    let given : is_given (view c.member-item.result) ≡ true = ap not (sym c.is_null.ensures ∙ c.if-not-is_null.true) in
+    let given : is_given (view c.member-item.result) ≡ true = sym c.is_given.ensures ∙ c.if-is_given.true in
     let value = value_of c.args.offset c.args.name.now c.args.kind in
     let next = member_next value c.args.members.now c.loop-member.member-index c.member-item.result c.loop-member-test.true c.member-item.is given in
     rw (p.1, p.2) (cause_of_all c.loop-member.values (value (view c.member-item.result)) (map value (filter is_given (map view (drop (c.loop-member.member-index + 1) c.args.members.now)))) _
