@@ -1,23 +1,25 @@
 -- Rows in order: there is such a list, and only one.
-use Rattle.std.proofs.Common.{◌≡◌, suc, ◌+◌, true, false, List, [], ◌∷◌, refl, sym, ◌∙◌, subst, arith}
-use Rattle.std.specs.List.{AllByRecursion, list_any}
+use Rattle.std.proofs.Common.{◌≡◌, suc, ◌+◌, Bool, true, false, not, List, [], ◌∷◌, refl, sym, ◌∙◌, ap, subst, arith}
+use Rattle.std.specs.Prelude.{◌&&◌, filter}
+use Rattle.std.specs.List.{AllByRecursion, IsDistinct, list_any}
+use Rattle.std.proofs.lemmas.Map.Views.{any-filter_same}
 use Rattle.std.specs.List.Sorted.{IsPermutation, IsSortedBy}
 use Rattle.std.specs.Cmp.{IsStrictWeakOrder}
 use Rattle.std.proofs.lemmas.List.MinMax.{ranks_by}
 use Rattle.std.proofs.lemmas.List.Elements.{All-from_recursion, recursion_from_All}
-use Rattle.std.proofs.lemmas.List.Sorted.{IsPermutation-refl, IsPermutation-trans, IsPermutation-cons, All-permutation, list_any-IsPermutation}
+use Rattle.std.proofs.lemmas.List.Sorted.{IsPermutation-refl, IsPermutation-sym, IsPermutation-trans, IsPermutation-cons, All-permutation, list_any-IsPermutation}
 use Rattle.std.proofs.lemmas.Map.Keys.{IsDistinct-head, IsDistinct-tail}
-use Rattle.md_value.specs.Values.{is_same}
-use Rattle.md_value.proofs.Orders.{same_refl, same_sym_false}
+use Rattle.md_value.specs.Values.{PathBytes, is_same}
+use Rattle.md_value.proofs.Orders.{same_refl, same_sym_false, before_not_same}
 use Rattle.md_value.proofs.Equals.{attrs_refl}
 use Rattle.md_world.specs.declared.Row.{Row}
 use Rattle.md_world.specs.declared.order.SortKey.{SortKey}
-use Rattle.md_world.specs.Tables.{same_row}
+use Rattle.md_world.specs.Tables.{StandAfter, IsTable, with_row, without_path, same_row}
 use Rattle.md_world.specs.Orders.{row_before, IsOrdered, IsInOrder, in_order}
 use Rattle.md_world.proofs.Lookups.{by_test, row_exact}
 use Rattle.md_sort.specs.Kept.{PathsDiffer}
 use Rattle.md_sort.proofs.Totals.{row_total, row_not_back, row_else_after}
-use Rattle.md_sort.proofs.Placed.{AreApart, placed_ordered, placed_permuted, all_implied}
+use Rattle.md_sort.proofs.Placed.{AreApart, placed_ordered, placed_permuted, set_permuted, differ_filter, differ_permuted, ordered_filter, all_implied}
 
 pub row_refl : (r : Row) → same_row r r ≡ true
 row_refl r = rw (same_refl r.path, attrs_refl r.attrs) refl
@@ -116,3 +118,52 @@ module _ (order : List SortKey) where
   ordered_sorted [] h differ = tt
   ordered_sorted (x ∷ xs) h differ =
       (rows_after_it x xs (rows_not_before x xs h) (IsDistinct-head _ x xs differ), ordered_sorted xs (sorted_tail x xs h) (IsDistinct-tail _ x xs differ))
+
+-- Rows with distinct paths and the same rows among them are the same in another order.
+pub same_members : (xs ys : List Row) → PathsDiffer xs → PathsDiffer ys → ((r : Row) → list_any (same_row r) xs ≡ list_any (same_row r) ys) → IsPermutation xs ys
+same_members xs ys hx hy h =
+    let x_order = is_there [] xs hx in
+    let y_order = is_there [] ys hy in
+    let one : in_order [] xs ≡ in_order [] ys =
+    same_lists [] (in_order [] xs) (in_order [] ys) x_order.ascends y_order.ascends
+    (λ r. sym (list_any-IsPermutation (same_row r) xs (in_order [] xs) x_order.same_rows) ∙ h r ∙ list_any-IsPermutation (same_row r) ys (in_order [] ys) y_order.same_rows) in
+    IsPermutation-trans _ _ _ (subst (IsPermutation xs) one x_order.same_rows) (IsPermutation-sym _ _ y_order.same_rows)
+
+-- a test keeps the same rows, in whatever order they are
+pub filter_permuted : (t : Row → Bool) (xs ys : List Row) → PathsDiffer xs → IsPermutation xs ys → IsPermutation (filter t xs) (filter t ys)
+filter_permuted t xs ys hx moved =
+    same_members (filter t xs) (filter t ys) (differ_filter t xs hx) (differ_filter t ys (differ_permuted xs ys moved hx))
+    (λ r.
+    any-filter_same (same_row r) t (t r) (λ w e. ap t (sym (row_exact r w e))) xs
+    ∙ ap (λ b. t r && b) (list_any-IsPermutation (same_row r) xs ys moved)
+    ∙ sym (any-filter_same (same_row r) t (t r) (λ w e. ap t (sym (row_exact r w e))) ys))
+
+-- the rows of a table have distinct paths
+pub table_differ : (rows : List Row) → IsTable rows → PathsDiffer rows
+unfolding IsDistinct
+table_differ [] h = tt
+table_differ (r ∷ rows) h = (apart rows h.0, table_differ rows h.1)
+  where
+    apart : (others : List Row) → StandAfter r.path others → AreApart r.path others
+    apart [] k = tt
+    apart (w ∷ others) k = (before_not_same r.path w.path k.0, apart others k.1)
+
+module _ (order : List SortKey) (table rows : List Row) (h : IsTable table) (shown : IsInOrder order table rows) where
+  -- A table's row is set in rows that have the table in order.
+  pub set_shown : (row : Row) (after : List Row) → IsInOrder order (with_row rows row) after → IsInOrder order (with_row table row) after
+  set_shown row after set =
+      let others = filter_permuted (λ other. not (is_same other.path row.path)) table rows (table_differ table h) shown.same_rows in
+      record {
+        same_rows =
+            IsPermutation-trans _ _ _ (IsPermutation-sym _ _ (set_permuted table row))
+            (IsPermutation-trans _ _ _ (IsPermutation-cons row _ _ others) (IsPermutation-trans _ _ _ (set_permuted rows row) set.same_rows));
+        ascends = set.ascends;
+      }
+
+  -- A table's path is taken out of rows that have the table in order.
+  pub out_shown : (p : PathBytes) → IsInOrder order (without_path table p) (without_path rows p)
+  out_shown p =
+      record {
+        same_rows = filter_permuted (λ other. not (is_same other.path p)) table rows (table_differ table h) shown.same_rows;
+        ascends = ordered_filter order (λ other. not (is_same other.path p)) rows shown.ascends;
+      }
