@@ -28,7 +28,7 @@ not_true : false ≡ true → ⊥
 not_true e = cc
 
 -- what holds of each row holds of one that is among them
-of_one : (P : Row → Type 0) (r : Row) (rows : List Row) → AllByRecursion P rows → list_any (same_row r) rows ≡ true → P r
+pub of_one : (P : Row → Type 0) (r : Row) (rows : List Row) → AllByRecursion P rows → list_any (same_row r) rows ≡ true → P r
 of_one P r [] h e = absurd (not_true e)
 of_one P r (w ∷ rows) h e =
     by_test (same_row r w)
@@ -38,6 +38,9 @@ of_one P r (w ∷ rows) h e =
 pub strict_rows : (order : List SortKey) → IsStrictWeakOrder (row_before order)
 unfolding row_before
 strict_rows order = ranks_by (row_total order) (λ (row : Row). row)
+
+pub apart_permuted : (r : Row) (xs ys : List Row) → IsPermutation xs ys → AreApart r.path xs → AreApart r.path ys
+apart_permuted r xs ys moved h = recursion_from_All _ ys (All-permutation (λ (w : Row). is_same r.path w.path ≡ false) xs ys moved (All-from_recursion _ xs h))
 
 module _ (order : List SortKey) where
   -- a row is not among those after it
@@ -77,9 +80,6 @@ module _ (order : List SortKey) where
       let y_first = of_one (λ w. row_before order y w ≡ true) x ys hy.0 x_there in
       let x_first = of_one (λ w. row_before order x w ≡ true) y xs hx.0 y_there in
       absurd (not_true (sym (row_not_back order x y x_first) ∙ y_first)))
-
-  apart_permuted : (r : Row) (xs ys : List Row) → IsPermutation xs ys → AreApart r.path xs → AreApart r.path ys
-  apart_permuted r xs ys moved h = recursion_from_All _ ys (All-permutation (λ (w : Row). is_same r.path w.path ≡ false) xs ys moved (All-from_recursion _ xs h))
 
   pub is_there : (rows : List Row) → PathsDiffer rows → IsInOrder order rows (in_order order rows)
   is_there [] h = record { same_rows = IsPermutation-refl []; ascends = tt }

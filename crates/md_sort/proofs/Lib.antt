@@ -1,3 +1,4 @@
 pub mod Totals
 pub mod Placed
 pub mod Alone
+pub mod Slots

@@ -2,7 +2,7 @@
 #![tactic(auto)]
 
 mod compare;
-mod edits;
+mod index;
 mod laws;
 mod sorted;
 

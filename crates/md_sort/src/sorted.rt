@@ -5,29 +5,34 @@ ghost use Rattle.md_world.specs.Tables.{has_path, with_row, without_path};
 ghost use Rattle.md_world.specs.Orders.{IsInOrder};
 ghost use Rattle.md_sort.specs.Kept.{HasRoom, has_at};
 
-use crate::edits;
+use crate::index;
 use md_value::Path;
 use md_world::{Order, Row};
+use slab::Slab;
 use std::alloc::{AllocError, Global};
 use std::marker::Model;
 
 /// Rows with distinct paths in an order. Contracts see the order, the list of the rows, and for how many more there is
 /// room.
-#[derive(Debug, Drop)]
+#[derive(Drop)]
 pub struct Sorted {
     order: Order,
-    rows: Vec<Row>,
+    rows: Slab<Row>,
+    // The slots of the rows, by path and in the order.
+    paths: Vec<usize>,
+    places: Vec<usize>,
 }
 
 impl Model for Sorted {
-    ghost use Rattle.std.specs.Prelude.{◌-◌, vec_len, vec_capacity};
-    ghost use Rattle.md_sort.specs.Kept.{Kept, AreKept};
+    ghost use Rattle.slab.specs.Slab.{get};
+    ghost use Rattle.md_sort.specs.Kept.{Kept};
+    ghost use Rattle.md_sort.specs.Slots.{rows_at, AreIndexed, room_in};
 
     ghost Value = { Kept };
 
-    ghost view = { λ s. record { order = s.order; rows = s.rows.items; spare = vec_capacity s.rows - vec_len s.rows } };
+    ghost view = { λ s. record { order = s.order; rows = rows_at (get s.rows) s.places.items; spare = room_in s.rows s.paths s.places } };
 
-    ghost invariant = { λ s. AreKept s.order s.rows.items };
+    ghost invariant = { λ s. AreIndexed s.order (get s.rows) s.paths.items s.places.items };
 }
 
 impl Sorted {
@@ -38,7 +43,9 @@ impl Sorted {
     {
         Sorted {
             order,
-            rows: Vec::new(alloc),
+            rows: Slab::new(alloc),
+            paths: Vec::new(alloc),
+            places: Vec::new(alloc),
         }
     }
 
@@ -49,7 +56,9 @@ impl Sorted {
         ensures spare { self.old.spare ≤ self.new.spare }
         ensures room { OnOk result (more ≤ self.new.spare) }
     {
-        self.rows.reserve(more)
+        self.rows.reserve(more)?;
+        self.paths.reserve(more)?;
+        self.places.reserve(more)
     }
 
     /// Sets the row of its path, for which there has to be room. Takes no memory.
@@ -59,7 +68,13 @@ impl Sorted {
         ensures order { self.new.order ≡ self.old.order }
         ensures spare { self.old.spare ≤ self.new.spare + 1 }
     {
-        edits::set(self.order.keys(), &mut self.rows, row);
+        index::set(
+            self.order.keys(),
+            &mut self.rows,
+            &mut self.paths,
+            &mut self.places,
+            row,
+        );
     }
 
     /// Takes the row of a path out, and answers whether there was one. Takes no memory.
@@ -69,35 +84,47 @@ impl Sorted {
         ensures order { self.new.order ≡ self.old.order }
         ensures spare { self.old.spare ≤ self.new.spare }
     {
-        edits::take_out(self.order.keys(), &mut self.rows, path)
+        index::take_out(
+            self.order.keys(),
+            &mut self.rows,
+            &mut self.paths,
+            &mut self.places,
+            path,
+        )
     }
 
     /// The row at a place, counted from 0.
     pub fn at(&self, place: usize) -> Option<&Row>
         ensures { option_copied result ≡ slice_get self.now.rows place }
     {
-        self.rows.get(place)
+        index::row_at(&self.rows, &self.places, place)
     }
 
-    /// Where the row of a path stands, counted from 0. Where there are sort keys it goes over the rows.
+    /// Where the row of a path stands, counted from 0.
     pub fn place_of(&self, path: &Path) -> Option<usize>
         ensures { MatchOption result (has_path self.now.rows path.now ≡ false) (λ place. has_at self.now.rows place path.now ≡ true) }
     {
-        edits::find(self.order.keys(), &self.rows, path)
+        index::place_of(
+            self.order.keys(),
+            &self.rows,
+            &self.paths,
+            &self.places,
+            path,
+        )
     }
 
     /// How many rows there are.
     pub fn len(&self) -> usize
         ensures { result ≡ length self.now.rows }
     {
-        self.rows.len()
+        self.places.len()
     }
 
     /// Whether there is no row.
     pub fn is_empty(&self) -> bool
         ensures { result ≡ (length self.now.rows == 0) }
     {
-        self.rows.is_empty()
+        self.places.is_empty()
     }
 
     /// The order of the rows.
@@ -114,7 +141,7 @@ impl Sorted {
         ensures spare { self.old.spare ≤ self.new.spare }
         ensures err { OnErr result (self.new ≡ self.old) }
     {
-        edits::sort(order.keys(), &mut self.rows);
+        index::sort(order.keys(), &self.rows, &mut self.places);
         self.order = order;
         Ok(())
     }
