@@ -97,7 +97,7 @@ fn time(rt: &HostRuntime, name: &str, is_keyed: bool, count: u64, step: u64) -> 
 fn main(rt: HostRuntime) -> anyhow::Result<()> {
     for _ in 0..3 {
         time(&rt, "by path, in shuffled order", false, 100_000, 7_919)?;
-        time(&rt, "by rating, in shuffled order", true, KEYED, 7_919)?;
+        time(&rt, "by rating, in shuffled order", true, 100_000, 7_919)?;
     }
     Ok(())
 }
@@ -158,23 +158,18 @@ fn by_rating(name: &str, count: u64, step: u64) {
 fn main() {
     for _ in 0..3 {
         by_path("by path, in shuffled order", 100_000, 7_919);
-        by_rating("by rating, in shuffled order", KEYED, 7_919);
+        by_rating("by rating, in shuffled order", 100_000, 7_919);
     }
 }
 """
 
-# How many rows are sorted by a key.
-KEYED = "10_000"
-
-
 def run_sorted(top):
-    program = PROGRAM.replace("KEYED", KEYED)
-    subprocess.run(["rt", "run"], cwd=programs.write(top, USED, program), check=True)
+    subprocess.run(["rt", "run"], cwd=programs.write(top, USED, PROGRAM), check=True)
 
 
 def run_plain(top):
     source = top / "plain.rs"
-    source.write_text(PLAIN.replace("KEYED", KEYED))
+    source.write_text(PLAIN)
     subprocess.run(["rustc", "-O", "-o", top / "plain", source], check=True)
     subprocess.run([top / "plain"], check=True)
 
