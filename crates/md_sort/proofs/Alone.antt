@@ -1,0 +1,169 @@
+-- Rows in order: there is such a list, and only one.
+use Rattle.std.proofs.Common.{◌≡◌, suc, ◌+◌, Bool, true, false, not, List, [], ◌∷◌, refl, sym, ◌∙◌, ap, subst, arith}
+use Rattle.std.specs.Prelude.{◌&&◌, filter}
+use Rattle.std.specs.List.{AllByRecursion, IsDistinct, list_any}
+use Rattle.std.proofs.lemmas.Map.Views.{any-filter_same}
+use Rattle.std.specs.List.Sorted.{IsPermutation, IsSortedBy}
+use Rattle.std.specs.Cmp.{IsStrictWeakOrder}
+use Rattle.std.proofs.lemmas.List.MinMax.{ranks_by}
+use Rattle.std.proofs.lemmas.List.Elements.{All-from_recursion, recursion_from_All}
+use Rattle.std.proofs.lemmas.List.Sorted.{IsPermutation-refl, IsPermutation-sym, IsPermutation-trans, IsPermutation-cons, All-permutation, list_any-IsPermutation}
+use Rattle.std.proofs.lemmas.Map.Keys.{IsDistinct-head, IsDistinct-tail}
+use Rattle.md_value.specs.Values.{PathBytes, is_same}
+use Rattle.md_value.proofs.Orders.{same_refl, same_sym_false, before_not_same}
+use Rattle.md_value.proofs.Equals.{attrs_refl}
+use Rattle.md_world.specs.declared.Row.{Row}
+use Rattle.md_world.specs.declared.order.SortKey.{SortKey}
+use Rattle.md_world.specs.Tables.{StandAfter, IsTable, with_row, without_path, same_row}
+use Rattle.md_world.specs.Orders.{row_before, IsOrdered, IsInOrder, in_order}
+use Rattle.md_world.proofs.Lookups.{by_test, row_exact}
+use Rattle.md_sort.specs.Kept.{PathsDiffer}
+use Rattle.md_sort.proofs.Totals.{row_total, row_not_back, row_else_after}
+use Rattle.md_sort.proofs.Placed.{AreApart, placed_ordered, placed_permuted, set_permuted, differ_filter, differ_permuted, ordered_filter, all_implied}
+
+pub row_refl : (r : Row) → same_row r r ≡ true
+row_refl r = rw (same_refl r.path, attrs_refl r.attrs) refl
+
+not_true : false ≡ true → ⊥
+not_true e = cc
+
+-- what holds of each row holds of one that is among them
+pub of_one : (P : Row → Type 0) (r : Row) (rows : List Row) → AllByRecursion P rows → list_any (same_row r) rows ≡ true → P r
+of_one P r [] h e = absurd (not_true e)
+of_one P r (w ∷ rows) h e =
+    by_test (same_row r w)
+    (λ k. subst P (sym (row_exact r w k)) h.0)
+    (λ k. of_one P r rows h.1 (rw k at e))
+
+pub strict_rows : (order : List SortKey) → IsStrictWeakOrder (row_before order)
+unfolding row_before
+strict_rows order = ranks_by (row_total order) (λ (row : Row). row)
+
+pub apart_permuted : (r : Row) (xs ys : List Row) → IsPermutation xs ys → AreApart r.path xs → AreApart r.path ys
+apart_permuted r xs ys moved h = recursion_from_All _ ys (All-permutation (λ (w : Row). is_same r.path w.path ≡ false) xs ys moved (All-from_recursion _ xs h))
+
+module _ (order : List SortKey) where
+  -- a row is not among those after it
+  not_again : (r : Row) (rows : List Row) → AllByRecursion (λ (w : Row). row_before order r w ≡ true) rows → list_any (same_row r) rows ≡ false
+  not_again r rows h =
+      by_test (list_any (same_row r) rows)
+      (λ e.
+      let after = of_one (λ w. row_before order r w ≡ true) r rows h e in
+      absurd (not_true (sym (row_not_back order r r after) ∙ after)))
+      (λ e. e)
+
+  same_tails : (x : Row) (xs ys : List Row) → IsOrdered order (x ∷ xs) → IsOrdered order (x ∷ ys) → ((r : Row) → list_any (same_row r) (x ∷ xs) ≡ list_any (same_row r) (x ∷ ys)) → (r : Row) → list_any (same_row r) xs ≡ list_any (same_row r) ys
+  same_tails x xs ys hx hy h r =
+      by_test (same_row r x)
+      (λ e.
+      let is = row_exact r x e in
+      subst (λ w. list_any (same_row w) xs ≡ list_any (same_row w) ys) (sym is) (not_again x xs hx.0 ∙ sym (not_again x ys hy.0)))
+      (λ e. let k = h r in rw e at k)
+
+  -- Two lists in order with the same rows are equal.
+  pub same_lists : (xs ys : List Row) → IsOrdered order xs → IsOrdered order ys → ((r : Row) → list_any (same_row r) xs ≡ list_any (same_row r) ys) → xs ≡ ys
+  same_lists [] [] hx hy h = refl
+  same_lists [] (y ∷ ys) hx hy h = let k = h y in absurd (not_true (rw (row_refl y) at k))
+  same_lists (x ∷ xs) [] hx hy h = let k = sym (h x) in absurd (not_true (rw (row_refl x) at k))
+  same_lists (x ∷ xs) (y ∷ ys) hx hy h =
+      by_test (same_row x y)
+      (λ e.
+      let first : y ≡ x = sym (row_exact x y e) in
+      let hy' : IsOrdered order (x ∷ ys) = subst (λ w. IsOrdered order (w ∷ ys)) first hy in
+      let h' : ((r : Row) → list_any (same_row r) (x ∷ xs) ≡ list_any (same_row r) (x ∷ ys)) = subst (λ w. (r : Row) → list_any (same_row r) (x ∷ xs) ≡ list_any (same_row r) (w ∷ ys)) first h in
+      let rest = same_lists xs ys hx.1 hy.1 (same_tails x xs ys hx hy' h') in
+      cc)
+      (λ e.
+      let back : same_row y x ≡ false = by_test (same_row y x) (λ k. absurd (not_true (sym e ∙ subst (λ w. same_row x w ≡ true) (sym (row_exact y x k)) (row_refl x)))) (λ k. k) in
+      let x_there : list_any (same_row x) ys ≡ true = let k = h x in sym (rw (row_refl x, e) at k) in
+      let y_there : list_any (same_row y) xs ≡ true = let k = h y in rw (row_refl y, back) at k in
+      let y_first = of_one (λ w. row_before order y w ≡ true) x ys hy.0 x_there in
+      let x_first = of_one (λ w. row_before order x w ≡ true) y xs hx.0 y_there in
+      absurd (not_true (sym (row_not_back order x y x_first) ∙ y_first)))
+
+  pub is_there : (rows : List Row) → PathsDiffer rows → IsInOrder order rows (in_order order rows)
+  is_there [] h = record { same_rows = IsPermutation-refl []; ascends = tt }
+  is_there (r ∷ rows) h =
+      let rest = is_there rows (IsDistinct-tail _ r rows h) in
+      let apart = apart_permuted r rows (in_order order rows) rest.same_rows (IsDistinct-head _ r rows h) in
+      record {
+        same_rows = IsPermutation-trans _ _ _ (IsPermutation-cons r _ _ rest.same_rows) (placed_permuted order r (in_order order rows));
+        ascends = placed_ordered order r (in_order order rows) apart rest.ascends;
+      }
+
+  pub is_alone : (rows some other : List Row) → IsInOrder order rows some → IsInOrder order rows other → some ≡ other
+  is_alone rows some other h k =
+      same_lists some other h.ascends k.ascends
+      (λ r. sym (list_any-IsPermutation (same_row r) rows some h.same_rows) ∙ list_any-IsPermutation (same_row r) rows other k.same_rows)
+
+  sorted_tail : (x : Row) (xs : List Row) → IsSortedBy (row_before order) (x ∷ xs) → IsSortedBy (row_before order) xs
+  sorted_tail x xs h k d le lt =
+      let next : suc k + 1 ≡ suc (k + 1) = omega arith in
+      let far = h (suc k) d (omega arith) (omega arith) in rw next at far
+
+  -- none of the rows after the first stands before it
+  rows_not_before : (x : Row) (xs : List Row) → IsSortedBy (row_before order) (x ∷ xs) → AllByRecursion (λ (w : Row). row_before order w x ≡ false) xs
+  rows_not_before x [] h = tt
+  rows_not_before x (y ∷ ys) h =
+      let first : row_before order y x ≡ false = h 0 x (omega arith) (omega arith) in
+      let rest = rows_not_before y ys (sorted_tail x (y ∷ ys) h) in
+      (first, all_implied _ _ (λ w k. (strict_rows order).chain w y x k first) ys rest)
+
+  rows_after_it : (x : Row) (xs : List Row) → AllByRecursion (λ (w : Row). row_before order w x ≡ false) xs → AreApart x.path xs → AllByRecursion (λ (w : Row). row_before order x w ≡ true) xs
+  rows_after_it x [] h apart = tt
+  rows_after_it x (w ∷ ws) h apart = (row_else_after order w x (same_sym_false x.path w.path apart.0) h.0, rows_after_it x ws h.1 apart.1)
+
+  -- rows that are sorted, and have distinct paths, are in order
+  pub ordered_sorted : (xs : List Row) → IsSortedBy (row_before order) xs → PathsDiffer xs → IsOrdered order xs
+  ordered_sorted [] h differ = tt
+  ordered_sorted (x ∷ xs) h differ =
+      (rows_after_it x xs (rows_not_before x xs h) (IsDistinct-head _ x xs differ), ordered_sorted xs (sorted_tail x xs h) (IsDistinct-tail _ x xs differ))
+
+-- Rows with distinct paths and the same rows among them are the same in another order.
+pub same_members : (xs ys : List Row) → PathsDiffer xs → PathsDiffer ys → ((r : Row) → list_any (same_row r) xs ≡ list_any (same_row r) ys) → IsPermutation xs ys
+same_members xs ys hx hy h =
+    let x_order = is_there [] xs hx in
+    let y_order = is_there [] ys hy in
+    let one : in_order [] xs ≡ in_order [] ys =
+    same_lists [] (in_order [] xs) (in_order [] ys) x_order.ascends y_order.ascends
+    (λ r. sym (list_any-IsPermutation (same_row r) xs (in_order [] xs) x_order.same_rows) ∙ h r ∙ list_any-IsPermutation (same_row r) ys (in_order [] ys) y_order.same_rows) in
+    IsPermutation-trans _ _ _ (subst (IsPermutation xs) one x_order.same_rows) (IsPermutation-sym _ _ y_order.same_rows)
+
+-- a test keeps the same rows, in whatever order they are
+pub filter_permuted : (t : Row → Bool) (xs ys : List Row) → PathsDiffer xs → IsPermutation xs ys → IsPermutation (filter t xs) (filter t ys)
+filter_permuted t xs ys hx moved =
+    same_members (filter t xs) (filter t ys) (differ_filter t xs hx) (differ_filter t ys (differ_permuted xs ys moved hx))
+    (λ r.
+    any-filter_same (same_row r) t (t r) (λ w e. ap t (sym (row_exact r w e))) xs
+    ∙ ap (λ b. t r && b) (list_any-IsPermutation (same_row r) xs ys moved)
+    ∙ sym (any-filter_same (same_row r) t (t r) (λ w e. ap t (sym (row_exact r w e))) ys))
+
+-- the rows of a table have distinct paths
+pub table_differ : (rows : List Row) → IsTable rows → PathsDiffer rows
+unfolding IsDistinct
+table_differ [] h = tt
+table_differ (r ∷ rows) h = (apart rows h.0, table_differ rows h.1)
+  where
+    apart : (others : List Row) → StandAfter r.path others → AreApart r.path others
+    apart [] k = tt
+    apart (w ∷ others) k = (before_not_same r.path w.path k.0, apart others k.1)
+
+module _ (order : List SortKey) (table rows : List Row) (h : IsTable table) (shown : IsInOrder order table rows) where
+  -- A table's row is set in rows that have the table in order.
+  pub set_shown : (row : Row) (after : List Row) → IsInOrder order (with_row rows row) after → IsInOrder order (with_row table row) after
+  set_shown row after set =
+      let others = filter_permuted (λ other. not (is_same other.path row.path)) table rows (table_differ table h) shown.same_rows in
+      record {
+        same_rows =
+            IsPermutation-trans _ _ _ (IsPermutation-sym _ _ (set_permuted table row))
+            (IsPermutation-trans _ _ _ (IsPermutation-cons row _ _ others) (IsPermutation-trans _ _ _ (set_permuted rows row) set.same_rows));
+        ascends = set.ascends;
+      }
+
+  -- A table's path is taken out of rows that have the table in order.
+  pub out_shown : (p : PathBytes) → IsInOrder order (without_path table p) (without_path rows p)
+  out_shown p =
+      record {
+        same_rows = filter_permuted (λ other. not (is_same other.path p)) table rows (table_differ table h) shown.same_rows;
+        ascends = ordered_filter order (λ other. not (is_same other.path p)) rows shown.ascends;
+      }

@@ -1,0 +1,4 @@
+pub mod Totals
+pub mod Placed
+pub mod Alone
+pub mod Slots
