@@ -1,9 +1,10 @@
 -- The first line of a text, and where a byte stands first.
-use Rattle.std.proofs.Common.{◌≡◌, ℕ, ◌<◌, ◌≤◌, Bool, true, false, cond, eqb, ltb, List, [], ◌∷◌, length, refl, sym, ◌∙◌, ap, Option, Some, None, arith}
-use Rattle.std.specs.List.{slice_split, position_or_len, before_first, after_first}
+use Rattle.std.proofs.Common.{◌≡◌, ℕ, ◌+◌, ◌<◌, ◌≤◌, Bool, true, false, cond, eqb, ltb, List, [], ◌∷◌, length, refl, sym, ◌∙◌, ap, Option, Some, None, arith}
+use Rattle.std.specs.List.{list_any, slice_split, position_or_len, before_first, after_first}
 use Rattle.std.specs.Str.Lines.{lines, lines_of_parts, strip_carriage_return}
 use Rattle.std.proofs.lemmas.Bool.{ltb-false}
 use Rattle.std.proofs.lemmas.Bool.Decides.{nat_tests}
+use Rattle.std.proofs.lemmas.List.Folds.{list_any_none}
 use Rattle.std.proofs.lemmas.List.Splits.{slice_split_first, slice_split_none, length-slice_split}
 use Rattle.std.proofs.lemmas.List.Sums.{fails_before_first, prefix_len-le-length}
 
@@ -36,3 +37,15 @@ place_none p xs r is none =
     let beyond = ltb-false (position_or_len p xs) (length xs) (place_beyond (position_or_len p xs) (length xs) r is none) in
     let within : position_or_len p xs ≤ length xs = prefix_len-le-length _ xs in
     omega (arith, beyond, within)
+
+-- whether there is a place
+pub any_found : (p : ℕ → Bool) (xs : List ℕ) → position_or_len p xs < length xs → list_any p xs ≡ true
+any_found p [] h = absurd (omega arith)
+any_found p (x ∷ xs) h =
+    elim (p x) as (λ b. p x ≡ b → list_any p (x ∷ xs) ≡ true) [
+      | true ↦ λ is. rw is refl
+      | false ↦ λ is. rw is (any_found p xs (let more : 1 + position_or_len p xs < length (x ∷ xs) = rw is at h in omega arith))
+    ] refl
+
+pub any_none : (p : ℕ → Bool) (xs : List ℕ) → length xs ≤ position_or_len p xs → list_any p xs ≡ false
+any_none p xs none = list_any_none p xs (λ k d lt. fails_before_first p xs k d (omega (arith, none)))

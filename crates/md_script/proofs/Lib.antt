@@ -1,4 +1,7 @@
+pub mod Asking
+pub mod Choosing
 pub mod FirstLine
+pub mod Naming
 pub mod Numerals
 pub mod Outcomes
 pub mod Reading

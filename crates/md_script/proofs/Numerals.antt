@@ -10,7 +10,7 @@ use Rattle.std.proofs.lemmas.Bool.Decides.{Decides-ltb, nat_tests}
 use Rattle.std.proofs.lemmas.Fmt.{IsAscii-from_digits}
 use Rattle.std.proofs.lemmas.Str.{IsUtf8-from_ascii, is_utf8-from_IsUtf8}
 use Rattle.std.proofs.lemmas.Str.Parse.{IsNumeralModel, tells_all_ascii_digits, numerals_by_value, parse_digits}
-use Rattle.md_script.specs.Words.{is_numeral, number_below, query_number}
+use Rattle.md_script.specs.Words.{is_numeral, number_below, number_of}
 
 same_test : (ds : List ℕ) → all_ascii_digits ds ≡ list_all is_ascii_digit ds
 same_test [] = refl
@@ -41,16 +41,16 @@ digits_utf8 bs h = is_utf8-from_IsUtf8 bs (IsUtf8-from_ascii bs (IsAscii-from_di
 same_text : (bs ds : List ℕ) → is_numeral bs ≡ true → Some ds ≡ (if is_utf8 bs then Some bs else None) → ds ≡ bs
 same_text bs ds h is = let utf8 = digits_utf8 bs h in let same : (if is_utf8 bs then Some bs else None) ≡ Some bs = rw utf8 refl in cc
 
-pub no_number : (bs : List ℕ) → is_numeral bs ≡ false → None ≡ query_number bs
-unfolding query_number number_below
+pub no_number : (bs : List ℕ) → is_numeral bs ≡ false → None ≡ number_of bs
+unfolding number_of number_below
 no_number bs h = rw h refl
 
-pub no_text : (bs : List ℕ) → is_numeral bs ≡ true → None ≡ (if is_utf8 bs then Some bs else None) → None ≡ query_number bs
+pub no_text : (bs : List ℕ) → is_numeral bs ≡ true → None ≡ (if is_utf8 bs then Some bs else None) → None ≡ number_of bs
 no_text bs h is = let utf8 = digits_utf8 bs h in let same : (if is_utf8 bs then Some bs else None) ≡ Some bs = rw utf8 refl in cc
 
 -- what is parsed is the number
-pub parsed : (bs ds : List ℕ) (n : ℕ) → is_numeral bs ≡ true → Some ds ≡ (if is_utf8 bs then Some bs else None) → ParsesUnsigned {E = Unit {0}} 32 10 ds (Ok n) → Some n ≡ query_number bs
-unfolding query_number number_below
+pub parsed : (bs ds : List ℕ) (n : ℕ) → is_numeral bs ≡ true → Some ds ≡ (if is_utf8 bs then Some bs else None) → ParsesUnsigned {E = Unit {0}} 32 10 ds (Ok n) → Some n ≡ number_of bs
+unfolding number_of number_below
 parsed bs ds n h is p =
     let p' : ParsesUnsigned {E = Unit {0}} 32 10 bs (Ok n) = subst (λ (l : List ℕ). ParsesUnsigned {E = Unit {0}} 32 10 l (Ok n)) (same_text bs ds h is) p in
     let fact = parse_digits own {E = Unit {0}} 32 bs (Ok n) p' (digits bs h) in
@@ -62,8 +62,8 @@ no_value true v h = absurd (h refl)
 no_value false v h = refl
 
 -- digits that are not parsed write a number that is too large
-pub not_parsed : (bs ds : List ℕ) → is_numeral bs ≡ true → Some ds ≡ (if is_utf8 bs then Some bs else None) → ParsesUnsigned {E = Unit {0}} 32 10 ds (Err tt) → None ≡ query_number bs
-unfolding query_number number_below
+pub not_parsed : (bs ds : List ℕ) → is_numeral bs ≡ true → Some ds ≡ (if is_utf8 bs then Some bs else None) → ParsesUnsigned {E = Unit {0}} 32 10 ds (Err tt) → None ≡ number_of bs
+unfolding number_of number_below
 not_parsed bs ds h is p =
     let p' : ParsesUnsigned {E = Unit {0}} 32 10 bs (Err tt) = subst (λ (l : List ℕ). ParsesUnsigned {E = Unit {0}} 32 10 l (Err tt)) (same_text bs ds h is) p in
     let fact = parse_digits own {E = Unit {0}} 32 bs (Err tt) p' (digits bs h) in
@@ -73,7 +73,7 @@ at_most : (numeral : Bool) (v : ℕ) → (if numeral && nat_lt v 256 then Some v
 at_most false v = refl
 at_most true v = grind (arith, nat_tests)
 
--- a number below 256 is the number of a query that is so
-pub below_256 : (bs : List ℕ) → number_below 256 bs ≡ option_and_then (λ n. if nat_lt n 256 then Some n else None) (query_number bs)
-unfolding query_number number_below
+-- a number below 256 is a number of 32 bits that is so
+pub below_256 : (bs : List ℕ) → number_below 256 bs ≡ option_and_then (λ n. if nat_lt n 256 then Some n else None) (number_of bs)
+unfolding number_of number_below
 below_256 bs = at_most (is_numeral bs) (digits_value 10 bs)

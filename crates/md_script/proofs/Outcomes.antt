@@ -1,56 +1,128 @@
--- What lines from a number on make of a script.
-use Rattle.std.proofs.Common.{◌≡◌, ℕ, ◌+◌, ◌==◌, true, length, arith, List, [], ◌∷◌, ◌++◌, Option, Some, None, Result, Ok, Err, refl, sym, ◌∙◌, ap, append_assoc, append-nil}
-use Rattle.std.specs.List.{filter_map, enumerate_from, position_from}
+-- What lines from a number and a moment on make of a script.
+use Rattle.std.proofs.Common.{◌≡◌, ℕ, ◌+◌, ◌-◌, ◌==◌, true, length, take, arith, List, [], ◌∷◌, ◌++◌, Option, Some, None, unwrap_or, Result, Ok, Err, refl, sym, ◌∙◌, ap, append_assoc, append-nil, length-append}
+use Rattle.std.specs.Option.{option_map}
+use Rattle.std.specs.List.{filter_map, enumerate_from, position_from, last_or, cons_option}
 use Rattle.std.specs.Str.Lines.{lines}
+use Rattle.std.proofs.Math.Seq.{take-append_seam}
+use Rattle.std.proofs.lemmas.List.Elements.{filter_map-append}
+use Rattle.md_script.specs.declared.grammar.Meaning.{Meaning}
+use Rattle.md_script.specs.declared.grammar.Meaning.TheVariants as meaning
 use Rattle.md_script.specs.declared.script.What.{What}
 use Rattle.md_script.specs.declared.script.Line.{Line}
 use Rattle.md_script.specs.declared.script.ScriptError.{ScriptError}
 use Rattle.md_script.specs.declared.script.ScriptError.TheVariants.{BadLine}
 use Rattle.md_script.specs.Grammar.{said}
-use Rattle.md_script.specs.Scripts.{is_bad_line, numbered}
+use Rattle.md_script.specs.Scripts.{is_bad_line, what_of, moment_of, moment_after, numbered, statements}
+
+-- what a line of this meaning, number and moment says, and the lines that follow it, by their moment
+abbrev pub timed_by : Option Meaning → ℕ → ℕ → (ℕ → List Line) → List Line
+timed_by None n ms rest = rest ms
+timed_by (Some meaning.Nothing) n ms rest = rest ms
+timed_by (Some (meaning.At next)) n ms rest = rest next
+timed_by (Some (meaning.Says what)) n ms rest = record { number = n; at_ms = ms; what = what } ∷ rest ms
+
+-- the lines that say something, from a number and a moment on
+abbrev pub timed : ℕ → ℕ → List (List ℕ) → List Line
+timed n ms [] = []
+timed n ms (l ∷ ls) = timed_by (said l) n ms (λ next. timed (n + 1) next ls)
+
+last-append : (xs ys : List ℕ) (o : Option ℕ) → last_or o (xs ++ ys) ≡ last_or (last_or o xs) ys
+last-append [] ys o = refl
+last-append (x ∷ xs) ys o = last-append xs ys (Some x)
+
+last-one : (o p : Option ℕ) → unwrap_or (last_or o (cons_option p [])) 0 ≡ unwrap_or p (unwrap_or o 0)
+last-one o None = refl
+last-one o (Some ms) = refl
+
+-- the moment after one line more
+moment-more : (before : List (List ℕ)) (l : List ℕ) → moment_after (before ++ l ∷ []) ≡ unwrap_or (moment_of (said l)) (moment_after before)
+moment-more before l =
+    let told = λ (line : List ℕ). moment_of (said line) in
+    ap (λ (moments : List ℕ). unwrap_or (last_or None moments) 0) (filter_map-append told before (l ∷ []))
+    ∙ ap (λ (o : Option ℕ). unwrap_or o 0) (last-append (filter_map told before) (cons_option (told l) []) None) ∙ last-one (last_or None (filter_map told before)) (told l)
+
+numbered_by : (o : Option Meaning) (n ms : ℕ) (rest : ℕ → List Line)
+    → cons_option (option_map (λ (what : What). record { number = n; at_ms = ms; what = what }) (what_of o)) (rest (unwrap_or (moment_of o) ms)) ≡ timed_by o n ms rest
+numbered_by None n ms rest = refl
+numbered_by (Some meaning.Nothing) n ms rest = refl
+numbered_by (Some (meaning.At next)) n ms rest = refl
+numbered_by (Some (meaning.Says what)) n ms rest = refl
+
+before_line : (before : List (List ℕ)) (l : List ℕ) (ls : List (List ℕ)) → take (length before + 1 - 1) (before ++ l ∷ ls) ≡ before
+before_line before l ls = let e : length before + 1 - 1 ≡ length before = omega arith in ap (λ n. take n (before ++ l ∷ ls)) e ∙ take-append_seam before (l ∷ ls)
+
+-- the lines after some of all lines, with their numbers and moments
+numbered_timed : (left before all : List (List ℕ)) → all ≡ before ++ left
+    → filter_map (numbered all) (enumerate_from (length before + 1) left) ≡ timed (length before + 1) (moment_after before) left
+numbered_timed [] before all is = refl
+numbered_timed (l ∷ ls) before all is =
+    let n = length before + 1 in
+    let longer : length (before ++ l ∷ []) ≡ n = length-append before (l ∷ []) in
+    let moment : moment_after (take (n - 1) all) ≡ moment_after before = ap moment_after (ap (take (n - 1)) is ∙ before_line before l ls) in
+    let rest : filter_map (numbered all) (enumerate_from (n + 1) ls) ≡ timed (n + 1) (unwrap_or (moment_of (said l)) (moment_after before)) ls =
+    ap (λ k. filter_map (numbered all) (enumerate_from (k + 1) ls)) (sym longer)
+    ∙ numbered_timed ls (before ++ l ∷ []) all (is ∙ sym (append_assoc before (l ∷ []) ls))
+    ∙ ap (λ k. timed (k + 1) (moment_after (before ++ l ∷ [])) ls) longer
+    ∙ ap (λ ms. timed (n + 1) ms ls) (moment-more before l) in
+    ap (λ ms. cons_option (option_map (λ (what : What). record { number = n; at_ms = ms; what = what }) (what_of (said l))) (filter_map (numbered all) (enumerate_from (n + 1) ls))) moment
+    ∙ ap (λ (more : List Line). cons_option (option_map (λ (what : What). record { number = n; at_ms = moment_after before; what = what }) (what_of (said l))) more) rest
+    ∙ numbered_by (said l) n (moment_after before) (λ ms. timed (n + 1) ms ls)
+
+-- all lines that say something
+pub timed_all : (bytes : List ℕ) → timed 1 0 (lines bytes) ≡ statements bytes
+timed_all bytes = sym (numbered_timed (lines bytes) [] (lines bytes) refl)
 
 -- the lines that were read, and those that are left
 abbrev pub outcome_by : List Line → List Line → Option ℕ → Result (List Line) ScriptError
 outcome_by read left (Some number) = Err (BadLine number)
 outcome_by read left None = Ok (read ++ left)
 
-unfoldable pub outcome : List Line → ℕ → List (List ℕ) → Result (List Line) ScriptError
-outcome read n left = outcome_by read (filter_map numbered (enumerate_from n left)) (position_from is_bad_line n left)
+unfoldable pub outcome : List Line → ℕ → ℕ → List (List ℕ) → Result (List Line) ScriptError
+outcome read n ms left = outcome_by read (timed n ms left) (position_from is_bad_line n left)
 
 moved : (read : List Line) (line : Line) (left : List Line) (o : Option ℕ) → outcome_by read (line ∷ left) o ≡ outcome_by (read ++ line ∷ []) left o
 moved read line left (Some number) = refl
 moved read line left None = ap Ok (sym (append_assoc read (line ∷ []) left))
 
-outcome-bad : (read : List Line) (n : ℕ) (l : List ℕ) (ls : List (List ℕ)) → said l ≡ None → outcome read n (l ∷ ls) ≡ Err (BadLine n)
+outcome-bad : (read : List Line) (n ms : ℕ) (l : List ℕ) (ls : List (List ℕ)) → said l ≡ None → outcome read n ms (l ∷ ls) ≡ Err (BadLine n)
 unfolding outcome
-outcome-bad read n l ls h = rw h refl
+outcome-bad read n ms l ls h = rw h refl
 
-outcome-quiet : (read : List Line) (n : ℕ) (l : List ℕ) (ls : List (List ℕ)) → said l ≡ Some None → outcome read n (l ∷ ls) ≡ outcome read (n + 1) ls
+outcome-quiet : (read : List Line) (n ms : ℕ) (l : List ℕ) (ls : List (List ℕ)) → said l ≡ Some meaning.Nothing → outcome read n ms (l ∷ ls) ≡ outcome read (n + 1) ms ls
 unfolding outcome
-outcome-quiet read n l ls h = rw h refl
+outcome-quiet read n ms l ls h = rw h refl
 
-outcome-said : (read : List Line) (n : ℕ) (l : List ℕ) (ls : List (List ℕ)) (w : What) → said l ≡ Some (Some w) → outcome read n (l ∷ ls) ≡ outcome (read ++ record { number = n; what = w } ∷ []) (n + 1) ls
+outcome-at : (read : List Line) (n ms next : ℕ) (l : List ℕ) (ls : List (List ℕ)) → said l ≡ Some (meaning.At next) → outcome read n ms (l ∷ ls) ≡ outcome read (n + 1) next ls
 unfolding outcome
-outcome-said read n l ls w h = rw h (moved read (record { number = n; what = w }) (filter_map numbered (enumerate_from (n + 1) ls)) (position_from is_bad_line (n + 1) ls))
+outcome-at read n ms next l ls h = rw h refl
 
-pub outcome-nil : (read : List Line) (n : ℕ) → outcome read n [] ≡ Ok read
+outcome-said : (read : List Line) (n ms : ℕ) (l : List ℕ) (ls : List (List ℕ)) (w : What) → said l ≡ Some (meaning.Says w)
+    → outcome read n ms (l ∷ ls) ≡ outcome (read ++ record { number = n; at_ms = ms; what = w } ∷ []) (n + 1) ms ls
 unfolding outcome
-outcome-nil read n = ap Ok (append-nil read)
+outcome-said read n ms l ls w h = rw h (moved read (record { number = n; at_ms = ms; what = w }) (timed (n + 1) ms ls) (position_from is_bad_line (n + 1) ls))
 
-module _ (read : List Line) (n : ℕ) (left : List (List ℕ)) (line : List ℕ) (after : List (List ℕ)) (whole : Result (List Line) ScriptError) (here : outcome read n left ≡ whole) (is : left ≡ line ∷ after) where
+pub outcome-nil : (read : List Line) (n ms : ℕ) → outcome read n ms [] ≡ Ok read
+unfolding outcome
+outcome-nil read n ms = ap Ok (append-nil read)
+
+module _ (read : List Line) (n ms : ℕ) (left : List (List ℕ)) (line : List ℕ) (after : List (List ℕ)) (whole : Result (List Line) ScriptError) (here : outcome read n ms left ≡ whole) (is : left ≡ line ∷ after) where
   -- a line that is not in the grammar is the outcome
   pub bad_step : None ≡ said line → whole ≡ Err (BadLine n)
-  bad_step h = sym here ∙ ap (outcome read n) is ∙ outcome-bad read n line after (sym h)
+  bad_step h = sym here ∙ ap (outcome read n ms) is ∙ outcome-bad read n ms line after (sym h)
 
   -- a line that says nothing leaves the outcome
-  pub quiet_step : Some None ≡ said line → outcome read (n + 1) after ≡ whole
-  quiet_step h = sym (outcome-quiet read n line after (sym h)) ∙ ap (outcome read n) (sym is) ∙ here
+  pub quiet_step : Some meaning.Nothing ≡ said line → outcome read (n + 1) ms after ≡ whole
+  quiet_step h = sym (outcome-quiet read n ms line after (sym h)) ∙ ap (outcome read n ms) (sym is) ∙ here
+
+  -- a line that sets a moment sets that of the lines after it
+  pub at_step : (next : ℕ) → Some (meaning.At next) ≡ said line → outcome read (n + 1) next after ≡ whole
+  at_step next h = sym (outcome-at read n ms next line after (sym h)) ∙ ap (outcome read n ms) (sym is) ∙ here
 
   -- a line that says something is read
-  pub said_step : (next : List Line) (w : What) → Some (Some w) ≡ said line → next ≡ read ++ record { number = n; what = w } ∷ [] → outcome next (n + 1) after ≡ whole
-  said_step next w h pushed = ap (λ (l : List Line). outcome l (n + 1) after) pushed ∙ sym (outcome-said read n line after w (sym h)) ∙ ap (outcome read n) (sym is) ∙ here
+  pub said_step : (next : List Line) (w : What) → Some (meaning.Says w) ≡ said line → next ≡ read ++ record { number = n; at_ms = ms; what = w } ∷ [] → outcome next (n + 1) ms after ≡ whole
+  said_step next w h pushed = ap (λ (l : List Line). outcome l (n + 1) ms after) pushed ∙ sym (outcome-said read n ms line after w (sym h)) ∙ ap (outcome read n ms) (sym is) ∙ here
 
 -- where no line is left, the outcome is what was read
-pub end_step : (read : List Line) (n : ℕ) (rest : List ℕ) (whole : Result (List Line) ScriptError) → (length rest == 0) ≡ true → outcome read n (lines rest) ≡ whole → whole ≡ Ok read
-end_step read n [] whole none here = sym here ∙ outcome-nil read n
-end_step read n (b ∷ bs) whole none here = absurd (grind (arith, none))
+pub end_step : (read : List Line) (n ms : ℕ) (rest : List ℕ) (whole : Result (List Line) ScriptError) → (length rest == 0) ≡ true → outcome read n ms (lines rest) ≡ whole → whole ≡ Ok read
+end_step read n ms [] whole none here = sym here ∙ outcome-nil read n ms
+end_step read n ms (b ∷ bs) whole none here = absurd (grind (arith, none))

@@ -1,5 +1,5 @@
 -- Texts and paths of bytes.
-use Rattle.std.proofs.Common.{◌≡◌, ℕ, ◌==◌, Bool, true, false, not, List, length, Some, None, if◌then◌else◌, refl, sym, ◌∙◌, ap, IsUtf8}
+use Rattle.std.proofs.Common.{◌≡◌, ℕ, Bool, true, false, List, Some, None, if◌then◌else◌, refl, sym, ◌∙◌, ap, IsUtf8}
 use Rattle.std.specs.Str.{is_utf8}
 use Rattle.std.proofs.lemmas.Str.{is_utf8-from_IsUtf8, IsUtf8-from_is_utf8}
 use Rattle.md_value.specs.Path.{is_bad, normal}
@@ -19,19 +19,13 @@ utf8_of : (b : Bool) (bs ts : List ℕ) → Some ts ≡ (if b then Some bs else 
 utf8_of true bs ts is = (refl, cc)
 utf8_of false bs ts is = cc
 
-path_by : (b : Bool) (path : List ℕ) → (if b then None else Some path) ≡ (if not b then Some path else None)
-path_by true path = refl
-path_by false path = refl
-
--- a text that is no bad path is the path in normal form, unless that is the root
-pub path_read : (bs ts path : List ℕ) → Some ts ≡ (if is_utf8 bs then Some bs else None) → is_bad ts ≡ false → path ≡ normal ts
-    → (if length path == 0 then None else Some path) ≡ (if is_path bs then Some (normal bs) else None)
+-- a text that is no bad path is the path in normal form
+pub path_read : (bs ts path : List ℕ) → Some ts ≡ (if is_utf8 bs then Some bs else None) → is_bad ts ≡ false → path ≡ normal ts → Some path ≡ (if is_path bs then Some (normal bs) else None)
 unfolding is_path
 path_read bs ts path text good is =
     let told = utf8_of (is_utf8 bs) bs ts text in
     let good' : is_bad bs ≡ false = ap is_bad (sym told.1) ∙ good in
-    let path' : path ≡ normal bs = is ∙ ap normal told.1 in
-    ap (λ (p : List ℕ). if length p == 0 then None else Some p) path' ∙ rw (told.0, good') (path_by (length (normal bs) == 0) (normal bs))
+    rw (told.0, good') (ap Some (is ∙ ap normal told.1))
 
 pub path_bad : (bs ts : List ℕ) → Some ts ≡ (if is_utf8 bs then Some bs else None) → is_bad ts ≡ true → None ≡ (if is_path bs then Some (normal bs) else None)
 unfolding is_path

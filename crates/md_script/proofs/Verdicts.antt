@@ -1,5 +1,5 @@
 -- The verdict on a script, cause by cause.
-use Rattle.std.proofs.Common.{◌≡◌, ◌≢◌, ℕ, ◌<◌, ◌≤◌, ◌↔◌, Bool, true, false, nat_lt, List, [], length, Option, Some, None, Ok, Err, refl, sym, ap, arith}
+use Rattle.std.proofs.Common.{◌≡◌, ◌≢◌, ℕ, ◌<◌, ◌≤◌, ◌↔◌, Bool, true, false, nat_lt, List, [], length, Option, Some, None, Ok, Err, refl, sym, ◌∙◌, ap, arith}
 use Rattle.std.specs.Str.Lines.{lines}
 use Rattle.std.proofs.lemmas.Bool.{ltb-true, ltb-false}
 use Rattle.std.proofs.lemmas.Bool.Decides.{Decides-ltb, nat_tests}
@@ -7,7 +7,7 @@ use Rattle.md_script.specs.declared.read.TheConstants.{MOST_BYTES, MOST_LINES}
 use Rattle.md_script.specs.declared.script.Line.{Line}
 use Rattle.md_script.specs.declared.script.ScriptError.TheVariants.{TooLong, TooManyLines, BadLine, Memory}
 use Rattle.md_script.specs.Scripts.{verdict, verdict_by, first_bad, statements, IsShort}
-use Rattle.md_script.proofs.Outcomes.{outcome, outcome_by}
+use Rattle.md_script.proofs.Outcomes.{outcome, outcome_by, timed_all}
 
 not_below : (a b : ℕ) → b ≤ a → nat_lt a b ≡ false
 not_below a b h = grind (arith, nat_tests)
@@ -30,12 +30,12 @@ by_lines (Some number) left = refl
 by_lines None left = refl
 
 -- the verdict on a short script is the outcome of its lines
-pub verdict-short : (bytes : List ℕ) → length bytes ≤ MOST_BYTES → length (lines bytes) ≤ MOST_LINES → outcome [] 1 (lines bytes) ≡ verdict bytes
+pub verdict-short : (bytes : List ℕ) → length bytes ≤ MOST_BYTES → length (lines bytes) ≤ MOST_LINES → outcome [] 1 0 (lines bytes) ≡ verdict bytes
 unfolding verdict outcome
 verdict-short bytes short few =
     let long = not_below MOST_BYTES (length bytes) short in
     let many = not_below MOST_LINES (length (lines bytes)) few in
-    rw long (rw many (sym (by_lines (first_bad bytes) (statements bytes))))
+    ap (λ (left : List Line). outcome_by [] left (first_bad bytes)) (timed_all bytes) ∙ rw long (rw many (sym (by_lines (first_bad bytes) (statements bytes))))
 
 -- what each verdict says of the causes
 

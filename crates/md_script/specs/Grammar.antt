@@ -2,47 +2,64 @@
 use Rattle.std.specs.Prelude.{ℕ, ◌==◌, Bool, true, if◌then◌else◌, List, [], ◌∷◌, codes, bytes_eq, Option, Some, None}
 use Rattle.std.specs.Option.{option_map, option_and_then}
 use Rattle.std.specs.Str.{is_utf8}
+use Rattle.md_script.specs.declared.grammar.Meaning.{Meaning}
+use Rattle.md_script.specs.declared.grammar.Meaning.TheVariants as meaning
 use Rattle.md_script.specs.declared.script.What.{What}
 use Rattle.md_script.specs.declared.script.What.TheVariants as what
 use Rattle.md_script.specs.Lines.{first_word, after_word}
-use Rattle.md_script.specs.Words.{client_of, query_number, path_of, file_of, content_of, expression_of}
+use Rattle.md_script.specs.Words.{client_of, number_of, path_of, content_of}
+use Rattle.md_script.specs.Query.{query_of}
 
 -- `put PATH CONTENT` or `put PATH`
 unfoldable pub put_of : List ℕ → Option What
-put_of rest = option_and_then (λ path. option_map (λ text. what.Put path text) (content_of (after_word rest))) (file_of (first_word rest))
+put_of rest = option_and_then (λ path. option_map (λ text. what.Put path text) (content_of (after_word rest))) (path_of (first_word rest))
+
+-- `import PATH`
+unfoldable pub import_of : List ℕ → Option What
+import_of rest = option_map (λ path. what.Import path) (path_of rest)
 
 -- `remove PATH`
 unfoldable pub remove_of : List ℕ → Option What
 remove_of rest = option_map (λ path. what.Remove path) (path_of rest)
 
--- `cC query N where EXPRESSION`
-unfoldable pub query_of : ℕ → List ℕ → Option What
-query_of client rest = option_and_then (λ number. option_map (λ expr. what.Query client number expr) (expression_of (after_word rest))) (query_number (first_word rest))
-
--- `cC gather N`
-unfoldable pub gather_of : ℕ → List ℕ → Option What
-gather_of client rest = option_map (λ number. what.Gather client number) (query_number rest)
-
--- `cC poll N`
-unfoldable pub poll_of : ℕ → List ℕ → Option What
-poll_of client rest = option_map (λ number. what.Poll client number) (query_number rest)
+-- `cC gather N`, `cC poll N`, `cC disable N`, `cC enable N`, `cC stop N` or `cC show N`
+unfoldable pub event_of : ℕ → List ℕ → ℕ → Option What
+event_of client verb number =
+    if bytes_eq verb (codes "gather") then Some (what.Gather client number)
+    else (if bytes_eq verb (codes "poll") then Some (what.Poll client number)
+    else (if bytes_eq verb (codes "disable") then Some (what.Disable client number)
+    else (if bytes_eq verb (codes "enable") then Some (what.Enable client number)
+    else (if bytes_eq verb (codes "stop") then Some (what.Stop client number)
+    else (if bytes_eq verb (codes "show") then Some (what.Show client number)
+    else None)))))
 
 -- the line of a client, from its second word on
-unfoldable pub asked_of : ℕ → List ℕ → List ℕ → Option What
-asked_of client verb rest =
-    if bytes_eq verb (codes "query") then query_of client rest else (if bytes_eq verb (codes "gather") then gather_of client rest else (if bytes_eq verb (codes "poll") then poll_of client rest else None))
+unfoldable pub asked_by : ℕ → List ℕ → List ℕ → Option What
+asked_by client verb rest =
+    if bytes_eq verb (codes "query") then query_of client rest else option_and_then (event_of client verb) (number_of rest)
 
 -- the line by its first word
 unfoldable pub command_of : List ℕ → List ℕ → Option What
 command_of word rest =
-    if bytes_eq word (codes "put") then put_of rest else (if bytes_eq word (codes "remove") then remove_of rest else option_and_then (λ client. asked_of client (first_word rest) (after_word rest)) (client_of word))
+    if bytes_eq word (codes "put") then put_of rest
+    else (if bytes_eq word (codes "import") then import_of rest
+    else (if bytes_eq word (codes "remove") then remove_of rest
+    else option_and_then (λ client. asked_by client (first_word rest) (after_word rest)) (client_of word)))
 
 -- empty, or begins with `#`
 unfoldable pub says_nothing : List ℕ → Bool
 says_nothing [] = true
 says_nothing (b ∷ bs) = b == 35
 
--- None where the line is not in the grammar, Some None where it says nothing, and else what it says
-unfoldable pub said : List ℕ → Option (Option What)
+-- `at MS`
+unfoldable pub moment_of : List ℕ → Option Meaning
+moment_of rest = option_map (λ ms. meaning.At ms) (number_of rest)
+
+-- what a line means, by its first word and what follows it
+unfoldable pub said_by : List ℕ → List ℕ → Option Meaning
+said_by word rest = if bytes_eq word (codes "at") then moment_of rest else option_map (λ what. meaning.Says what) (command_of word rest)
+
+-- what a line means, or None where it is not in the grammar
+unfoldable pub said : List ℕ → Option Meaning
 said line =
-    if is_utf8 line then (if says_nothing line then Some None else option_map Some (command_of (first_word line) (after_word line))) else None
+    if is_utf8 line then (if says_nothing line then Some meaning.Nothing else said_by (first_word line) (after_word line)) else None

@@ -1,5 +1,7 @@
 pub mod Lines
 pub mod Escapes
 pub mod Words
+pub mod Options
+pub mod Query
 pub mod Grammar
 pub mod Scripts

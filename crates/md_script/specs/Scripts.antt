@@ -1,9 +1,12 @@
 -- What a script says, and which is refused.
-use Rattle.std.specs.Prelude.{ℕ, ◌≤◌, nat_lt, Bool, true, false, List, length, Option, Some, None, is_none, Result, Ok, Err}
-use Rattle.std.specs.Option.{option_map, option_and_then}
-use Rattle.std.specs.List.{filter_map, enumerate_from, position_from}
+use Rattle.std.specs.Prelude.{ℕ, ◌≤◌, ◌-◌, nat_lt, Bool, true, false, List, length, take, Option, Some, None, is_none, unwrap_or, Result, Ok, Err}
+use Rattle.std.specs.Option.{option_map}
+use Rattle.std.specs.List.{filter_map, enumerate_from, position_from, last_or}
 use Rattle.std.specs.Str.Lines.{lines}
 use Rattle.md_script.specs.declared.read.TheConstants.{MOST_BYTES, MOST_LINES}
+use Rattle.md_script.specs.declared.grammar.Meaning.{Meaning}
+use Rattle.md_script.specs.declared.grammar.Meaning.TheVariants as meaning
+use Rattle.md_script.specs.declared.script.What.{What}
 use Rattle.md_script.specs.declared.script.Line.{Line}
 use Rattle.md_script.specs.declared.script.ScriptError.{ScriptError}
 use Rattle.md_script.specs.declared.script.ScriptError.TheVariants.{TooLong, TooManyLines, BadLine}
@@ -17,13 +20,27 @@ is_bad_line line = is_none (said line)
 abbrev pub first_bad : List ℕ → Option ℕ
 first_bad bytes = position_from is_bad_line 1 (lines bytes)
 
--- what the line of this number says, if it says something
-abbrev pub numbered : ℕ × List ℕ → Option Line
-numbered line = option_and_then (λ what. option_map (λ w. record { number = line.0; what = w }) what) (said line.1)
+-- what the line says, if it says something
+abbrev pub what_of : Option Meaning → Option What
+what_of (Some (meaning.Says what)) = Some what
+what_of _ = None
 
--- the lines that say something, with their numbers from 1
+-- the moment that the line sets, if it sets one
+abbrev pub moment_of : Option Meaning → Option ℕ
+moment_of (Some (meaning.At ms)) = Some ms
+moment_of _ = None
+
+-- the moment of what follows these lines: that of the last `at`, or 0
+abbrev pub moment_after : List (List ℕ) → ℕ
+moment_after lines = unwrap_or (last_or None (filter_map (λ line. moment_of (said line)) lines)) 0
+
+-- what the line of this number says among all lines, if it says something
+abbrev pub numbered : List (List ℕ) → ℕ × List ℕ → Option Line
+numbered all line = option_map (λ what. record { number = line.0; at_ms = moment_after (take (line.0 - 1) all); what = what }) (what_of (said line.1))
+
+-- the lines that say something, with their numbers from 1 and their moments
 abbrev pub statements : List ℕ → List Line
-statements bytes = filter_map numbered (enumerate_from 1 (lines bytes))
+statements bytes = filter_map (numbered (lines bytes)) (enumerate_from 1 (lines bytes))
 
 -- within the most bytes and the most lines
 pub record IsShort (script : List ℕ) : Type 0 where

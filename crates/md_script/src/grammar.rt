@@ -1,22 +1,44 @@
 // What a line says.
 ghost use Rattle.std.specs.Prelude.{◌≡◌, IfOk};
-ghost use Rattle.md_script.specs.Grammar.{put_of, remove_of, query_of, gather_of, poll_of, asked_of, command_of, says_nothing, said};
+ghost use Rattle.md_script.specs.Grammar.{put_of, import_of, remove_of, event_of, asked_by, command_of, says_nothing, moment_of, said_by, said};
 
 use crate::What;
 use crate::lines::split_word;
-use crate::words::{client_of, content_of, expression_of, file_of, is_text, path_of, query_number};
+use crate::query::query_of;
+use crate::words::{client_of, content_of, is_text, number_of, path_of};
 use std::alloc::{AllocError, Global};
+
+/// What a line means.
+#[derive(Drop)]
+pub enum Meaning {
+    /// It is empty or a comment.
+    Nothing,
+    /// `at MS`: the lines after it, to the next `at`, have this moment, in milliseconds.
+    At(u64),
+    /// It says something.
+    Says(What),
+}
 
 #[tactic(auto, unfolding(crate::specs::Grammar::put_of))]
 fn put_of(alloc: Global, rest: &[u8]) -> Result<Option<What>, AllocError>
     ensures { IfOk result (λ what. what ≡ put_of rest.now) }
 {
     let (word, rest) = split_word(rest);
-    let Some(path) = file_of(alloc, word)? else {
+    let Some(path) = path_of(alloc, word)? else {
         return Ok(None);
     };
     match content_of(alloc, rest)? {
         Some(text) => Ok(Some(What::Put { path, text })),
+        None => Ok(None),
+    }
+}
+
+#[tactic(auto, unfolding(crate::specs::Grammar::import_of))]
+fn import_of(alloc: Global, rest: &[u8]) -> Result<Option<What>, AllocError>
+    ensures { IfOk result (λ what. what ≡ import_of rest.now) }
+{
+    match path_of(alloc, rest)? {
+        Some(path) => Ok(Some(What::Import { path })),
         None => Ok(None),
     }
 }
@@ -31,58 +53,42 @@ fn remove_of(alloc: Global, rest: &[u8]) -> Result<Option<What>, AllocError>
     }
 }
 
-#[tactic(auto, unfolding(crate::specs::Grammar::query_of))]
-fn query_of(alloc: Global, client: u8, rest: &[u8]) -> Result<Option<What>, AllocError>
-    ensures { IfOk result (λ what. what ≡ query_of client rest.now) }
+#[tactic(auto, unfolding(crate::specs::Grammar::event_of))]
+fn event_of(client: u8, verb: &[u8], number: u32) -> Option<What>
+    ensures { result ≡ event_of client verb.now number }
 {
-    let (word, rest) = split_word(rest);
-    let Some(number) = query_number(word) else {
-        return Ok(None);
-    };
-    match expression_of(alloc, rest)? {
-        Some(expr) => Ok(Some(What::Query {
-            client,
-            number,
-            expr,
-        })),
-        None => Ok(None),
+    if verb == b"gather".as_slice() {
+        return Some(What::Gather { client, number });
     }
+    if verb == b"poll".as_slice() {
+        return Some(What::Poll { client, number });
+    }
+    if verb == b"disable".as_slice() {
+        return Some(What::Disable { client, number });
+    }
+    if verb == b"enable".as_slice() {
+        return Some(What::Enable { client, number });
+    }
+    if verb == b"stop".as_slice() {
+        return Some(What::Stop { client, number });
+    }
+    if verb == b"show".as_slice() {
+        return Some(What::Show { client, number });
+    }
+    None
 }
 
-#[tactic(auto, unfolding(crate::specs::Grammar::gather_of))]
-fn gather_of(client: u8, rest: &[u8]) -> Option<What>
-    ensures { result ≡ gather_of client rest.now }
-{
-    match query_number(rest) {
-        Some(number) => Some(What::Gather { client, number }),
-        None => None,
-    }
-}
-
-#[tactic(auto, unfolding(crate::specs::Grammar::poll_of))]
-fn poll_of(client: u8, rest: &[u8]) -> Option<What>
-    ensures { result ≡ poll_of client rest.now }
-{
-    match query_number(rest) {
-        Some(number) => Some(What::Poll { client, number }),
-        None => None,
-    }
-}
-
-#[tactic(auto, unfolding(crate::specs::Grammar::asked_of))]
-fn asked_of(alloc: Global, client: u8, verb: &[u8], rest: &[u8]) -> Result<Option<What>, AllocError>
-    ensures { IfOk result (λ what. what ≡ asked_of client verb.now rest.now) }
+#[tactic(auto, unfolding(crate::specs::Grammar::asked_by))]
+fn asked_by(alloc: Global, client: u8, verb: &[u8], rest: &[u8]) -> Result<Option<What>, AllocError>
+    ensures { IfOk result (λ what. what ≡ asked_by client verb.now rest.now) }
 {
     if verb == b"query".as_slice() {
         return query_of(alloc, client, rest);
     }
-    if verb == b"gather".as_slice() {
-        return Ok(gather_of(client, rest));
+    match number_of(rest) {
+        Some(number) => Ok(event_of(client, verb, number)),
+        None => Ok(None),
     }
-    if verb == b"poll".as_slice() {
-        return Ok(poll_of(client, rest));
-    }
-    Ok(None)
 }
 
 #[tactic(auto, unfolding(crate::specs::Grammar::command_of))]
@@ -92,13 +98,16 @@ fn command_of(alloc: Global, word: &[u8], rest: &[u8]) -> Result<Option<What>, A
     if word == b"put".as_slice() {
         return put_of(alloc, rest);
     }
+    if word == b"import".as_slice() {
+        return import_of(alloc, rest);
+    }
     if word == b"remove".as_slice() {
         return remove_of(alloc, rest);
     }
     match client_of(word) {
         Some(client) => {
             let (verb, rest) = split_word(rest);
-            asked_of(alloc, client, verb, rest)
+            asked_by(alloc, client, verb, rest)
         }
         None => Ok(None),
     }
@@ -114,20 +123,40 @@ fn says_nothing(line: &[u8]) -> bool
     }
 }
 
-/// What a line says: `None` where it is not in the grammar, `Some(None)` where it says nothing.
+#[tactic(auto, unfolding(crate::specs::Grammar::moment_of))]
+fn moment_of(rest: &[u8]) -> Option<Meaning>
+    ensures { result ≡ moment_of rest.now }
+{
+    match number_of(rest) {
+        Some(ms) => Some(Meaning::At(u64::from(ms))),
+        None => None,
+    }
+}
+
+#[tactic(auto, unfolding(crate::specs::Grammar::said_by))]
+fn said_by(alloc: Global, word: &[u8], rest: &[u8]) -> Result<Option<Meaning>, AllocError>
+    ensures { IfOk result (λ r. r ≡ said_by word.now rest.now) }
+{
+    if word == b"at".as_slice() {
+        return Ok(moment_of(rest));
+    }
+    match command_of(alloc, word, rest)? {
+        Some(what) => Ok(Some(Meaning::Says(what))),
+        None => Ok(None),
+    }
+}
+
+/// What a line says, or `None` where it is not in the grammar.
 #[tactic(auto, unfolding(crate::specs::Grammar::said))]
-pub fn said(alloc: Global, line: &[u8]) -> Result<Option<Option<What>>, AllocError>
+pub fn said(alloc: Global, line: &[u8]) -> Result<Option<Meaning>, AllocError>
     ensures { IfOk result (λ r. r ≡ said line.now) }
 {
     if !is_text(line) {
         return Ok(None);
     }
     if says_nothing(line) {
-        return Ok(Some(None));
+        return Ok(Some(Meaning::Nothing));
     }
     let (word, rest) = split_word(line);
-    match command_of(alloc, word, rest)? {
-        Some(what) => Ok(Some(Some(what))),
-        None => Ok(None),
-    }
+    said_by(alloc, word, rest)
 }

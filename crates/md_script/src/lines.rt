@@ -1,6 +1,6 @@
 // The lines of a text, and the words of a line.
-ghost use Rattle.std.specs.Prelude.{◌≡◌, ◌==◌, ◌<◌, [], ◌∷◌, length, MatchOption};
-ghost use Rattle.std.specs.List.{position_or_len};
+ghost use Rattle.std.specs.Prelude.{◌≡◌, ◌==◌, ◌<◌, [], ◌∷◌, length, is_some, IfSome, MatchOption};
+ghost use Rattle.std.specs.List.{position_or_len, list_any, before_first, after_first};
 ghost use Rattle.std.specs.Str.Lines.{lines, strip_carriage_return};
 ghost use Rattle.md_script.specs.Lines.{first_word, after_word};
 
@@ -21,6 +21,19 @@ pub fn first(text: &[u8]) -> Option<(u8, &[u8])>
     match text {
         [] => None,
         [byte, rest @ ..] => Some((*byte, rest)),
+    }
+}
+
+/// What stands before the first such byte and what stands after it, if there is one.
+pub fn split_once(byte: u8, text: &[u8]) -> Option<(&[u8], &[u8])>
+    ensures found { is_some result ≡ list_any (λ b. b == byte) text.now }
+    ensures parts { IfSome result (λ p. (p.0.now ≡ before_first (λ b. b == byte) text.now) × (p.1.now ≡ after_first (λ b. b == byte) text.now)) }
+{
+    let end = place_of(byte, text);
+    if end < text.len() {
+        Some((&text[..end], &text[end + 1..]))
+    } else {
+        None
     }
 }
 

@@ -3,7 +3,7 @@ ghost use Rattle.std.specs.Prelude.{◌≡◌, ◌⊎◌, IfOk, IfErr, Ok, Err};
 ghost use Rattle.md_script.specs.Scripts.{verdict};
 ghost use Rattle.md_script.specs.declared.script.ScriptError.TheVariants.{Memory};
 
-use crate::grammar::said;
+use crate::grammar::{Meaning, said};
 use crate::lines::{count_lines, first_line};
 use crate::{Line, Script, ScriptError};
 use std::alloc::Global;
@@ -29,13 +29,19 @@ pub fn read_script(alloc: Global, bytes: &[u8]) -> Result<Script, ScriptError>
     }
     let mut lines = Vec::new(alloc);
     let mut number = 0;
+    let mut at_ms = 0;
     let mut rest = bytes;
     while !rest.is_empty() {
         let (line, after) = first_line(rest);
         number += 1;
         match said(alloc, line)? {
-            Some(Some(what)) => lines.push(Line { number, what })?,
-            Some(None) => {}
+            Some(Meaning::Nothing) => {}
+            Some(Meaning::At(ms)) => at_ms = ms,
+            Some(Meaning::Says(what)) => lines.push(Line {
+                number,
+                at_ms,
+                what,
+            })?,
             None => return Err(ScriptError::BadLine(number)),
         }
         rest = after;

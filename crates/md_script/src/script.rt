@@ -4,23 +4,70 @@ ghost use Rattle.md_script.specs.declared.script.ScriptError.TheVariants.{Memory
 
 use crate::Content;
 use md_expr::Expr;
+use md_machine::Batch;
 use md_value::{Items, Path};
+use md_world::Order;
 use std::alloc::{AllocError, AllocFailed};
 use std::marker::Model;
 
-/// What a line of a script says.
+/// What a line of a script says. A client's number is 0 to 255, a query's 0 to 4294967295.
 #[derive(Drop)]
 pub enum What {
-    /// `put PATH CONTENT`: a job whose file has this content. The path ends in `.txt`, in any case.
-    Put { path: Path, text: Content },
+    /// `put PATH CONTENT` or `put PATH`: a job whose file has this content, or none.
+    Put {
+        path: Path,
+        text: Content,
+    },
+    /// `import PATH`: a job whose file is read from the tree.
+    Import {
+        path: Path,
+    },
     /// `remove PATH`: a job that removes the path.
-    Remove { path: Path },
-    /// `cC query N where EXPRESSION`: the client's query of this number asks for the files that satisfy the expression.
-    Query { client: u8, number: u32, expr: Expr },
+    Remove {
+        path: Path,
+    },
+    /// `cC query N OPTIONS where EXPRESSION`: the client's query of this number asks for the files inside `scope` that
+    /// satisfy the expression. The options may be absent: `in=PATH` is the scope, else it is the root; `by=NAME` or
+    /// `by=-NAME`, at most `MOST_KEYS` times, are the keys of the order, the latter descending; `first=K`, `progress=K`,
+    /// `update=K` and `ms=K` are the numbers of the batch.
+    Query {
+        client: u8,
+        number: u32,
+        expr: Expr,
+        scope: Path,
+        order: Order,
+        batch: Batch,
+    },
     /// `cC gather N`
-    Gather { client: u8, number: u32 },
+    Gather {
+        client: u8,
+        number: u32,
+    },
     /// `cC poll N`
-    Poll { client: u8, number: u32 },
+    Poll {
+        client: u8,
+        number: u32,
+    },
+    /// `cC disable N`
+    Disable {
+        client: u8,
+        number: u32,
+    },
+    /// `cC enable N`
+    Enable {
+        client: u8,
+        number: u32,
+    },
+    /// `cC stop N`
+    Stop {
+        client: u8,
+        number: u32,
+    },
+    /// `cC show N`: prints what the client holds, and is no event.
+    Show {
+        client: u8,
+        number: u32,
+    },
 }
 
 /// A line that says something.
@@ -28,6 +75,8 @@ pub enum What {
 pub struct Line {
     /// Its place among all lines of the script, from 1.
     pub number: u32,
+    /// Its moment in milliseconds, from 0 to 4294967295: that of the last `at` before it, or 0.
+    pub at_ms: u64,
     pub what: What,
 }
 

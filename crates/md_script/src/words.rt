@@ -1,13 +1,12 @@
 // The numbers, paths, contents and expressions of a line.
-ghost use Rattle.std.specs.Prelude.{◌≡◌, ◌==◌, ◌&&◌, length, nat_le, IfOk, Some, None, if◌then◌else◌};
+ghost use Rattle.std.specs.Prelude.{◌≡◌, ◌==◌, length, IfOk, Some, None, if◌then◌else◌};
 ghost use Rattle.std.specs.Option.{option_map};
 ghost use Rattle.std.specs.List.{list_all, list_any};
 ghost use Rattle.std.specs.Char.{is_ascii_digit};
 ghost use Rattle.std.specs.Str.{is_utf8};
 ghost use Rattle.md_value.specs.Path.{normal};
 ghost use Rattle.md_script.specs.Lines.{is_space};
-ghost use Rattle.md_script.specs.declared.words.TheConstants.{MOST_CONTENT};
-ghost use Rattle.md_script.specs.Words.{is_numeral, number_below, client_of, query_number, is_path, path_of, is_plain_text, file_of, content_of, without_prefix, expression_of};
+ghost use Rattle.md_script.specs.Words.{is_numeral, number_below, client_of, number_of, is_path, folder_of, below_root, path_of, content_of, expression_of};
 
 use crate::Content;
 use crate::escapes::unescaped;
@@ -16,9 +15,6 @@ use md_expr::{Expr, ReadError, read};
 use md_value::{Path, PathError};
 use std::alloc::{AllocError, Global};
 use std::str;
-
-/// The most bytes that the content of a file has.
-pub const MOST_CONTENT: usize = 16_777_216;
 
 fn are_digits(text: &[u8]) -> bool
     ensures { result ≡ list_all is_ascii_digit text.now }
@@ -49,9 +45,9 @@ pub fn is_text(bytes: &[u8]) -> bool
     text_of(bytes).is_some()
 }
 
-/// The number of a query, in digits.
-pub fn query_number(text: &[u8]) -> Option<u32>
-    ensures { result ≡ query_number text.now }
+/// The number below 2^32 that digits write.
+pub fn number_of(text: &[u8]) -> Option<u32>
+    ensures { result ≡ number_of text.now }
 {
     if !is_numeral(text) {
         return None;
@@ -69,7 +65,7 @@ pub fn query_number(text: &[u8]) -> Option<u32>
 fn client_number(digits: &[u8]) -> Option<u8>
     ensures { result ≡ number_below 256 digits.now }
 {
-    match query_number(digits) {
+    match number_of(digits) {
         Some(number) if number < 256 => Some(number as u8),
         _ => None,
     }
@@ -95,15 +91,6 @@ fn has_space(word: &[u8]) -> bool
     word.contains(&b' ')
 }
 
-fn below_root(path: Path) -> Option<Path>
-    ensures { result ≡ (if length path == 0 then None else Some path) }
-{
-    if path.is_root() {
-        return None;
-    }
-    Some(path)
-}
-
 #[tactic(auto, unfolding(crate::specs::Words::is_path))]
 fn read_path(alloc: Global, text: &[u8]) -> Result<Option<Path>, AllocError>
     ensures { IfOk result (λ path. path ≡ (if is_path text.now then Some (normal text.now) else None)) }
@@ -112,10 +99,30 @@ fn read_path(alloc: Global, text: &[u8]) -> Result<Option<Path>, AllocError>
         return Ok(None);
     };
     match Path::read(alloc, text) {
-        Ok(path) => Ok(below_root(path)),
+        Ok(path) => Ok(Some(path)),
         Err(PathError::Bad) => Ok(None),
         Err(PathError::Memory) => Err(AllocError),
     }
+}
+
+/// The path that a text writes with escapes. It may be the root.
+#[tactic(auto, unfolding(crate::specs::Words::folder_of))]
+pub fn folder_of(alloc: Global, text: &[u8]) -> Result<Option<Path>, AllocError>
+    ensures { IfOk result (λ path. path ≡ folder_of text.now) }
+{
+    match unescaped(alloc, text)? {
+        Some(text) => read_path(alloc, &text),
+        None => Ok(None),
+    }
+}
+
+fn below_root(path: Path) -> Option<Path>
+    ensures { result ≡ below_root path }
+{
+    if path.is_root() {
+        return None;
+    }
+    Some(path)
 }
 
 /// The path that one word writes, other than the root.
@@ -126,40 +133,15 @@ pub fn path_of(alloc: Global, word: &[u8]) -> Result<Option<Path>, AllocError>
     if has_space(word) {
         return Ok(None);
     }
-    match unescaped(alloc, word)? {
-        Some(text) => read_path(alloc, &text),
-        None => Ok(None),
-    }
-}
-
-#[tactic(auto, unfolding(crate::specs::Words::is_plain_text))]
-fn is_plain_text(path: &[u8]) -> bool
-    ensures { result ≡ is_plain_text path.now }
-{
-    path.len() >= 4 && path[path.len() - 4..].eq_ignore_ascii_case(b".txt")
-}
-
-/// The path of a file of plain text that one word writes.
-#[tactic(auto, unfolding(crate::specs::Words::file_of))]
-pub fn file_of(alloc: Global, word: &[u8]) -> Result<Option<Path>, AllocError>
-    ensures { IfOk result (λ path. path ≡ file_of word.now) }
-{
-    match path_of(alloc, word)? {
-        Some(path) => Ok(if is_plain_text(path.as_str().as_bytes()) {
-            Some(path)
-        } else {
-            None
-        }),
+    match folder_of(alloc, word)? {
+        Some(path) => Ok(below_root(path)),
         None => Ok(None),
     }
 }
 
 fn content_in(alloc: Global, text: &[u8]) -> Result<Option<Content>, AllocError>
-    ensures { IfOk result (λ r. r ≡ (if is_utf8 text.now && nat_le (length text.now) MOST_CONTENT then Some text.now else None)) }
+    ensures { IfOk result (λ r. r ≡ (if is_utf8 text.now then Some text.now else None)) }
 {
-    if text.len() > MOST_CONTENT {
-        return Ok(None);
-    }
     match text_of(text) {
         Some(text) => Ok(Some(Content::of(alloc, text)?)),
         None => Ok(None),
@@ -177,23 +159,12 @@ pub fn content_of(alloc: Global, rest: &[u8]) -> Result<Option<Content>, AllocEr
     }
 }
 
-/// What follows the beginning, if the text begins so.
-#[tactic(auto, unfolding(crate::specs::Words::without_prefix))]
-fn without_prefix<'a>(prefix: &[u8], text: &'a [u8]) -> Option<&'a [u8]>
-    ensures { option_map (λ rest. rest.now) result ≡ without_prefix prefix.now text.now }
-{
-    text.strip_prefix(prefix)
-}
-
-/// The expression of a query's `where EXPRESSION`.
+/// The expression that a text is.
 #[tactic(auto, unfolding(crate::specs::Words::expression_of), using(md_expr::proofs::Outcomes::outcome_read, md_expr::proofs::Outcomes::outcome_refused))]
 pub fn expression_of(alloc: Global, text: &[u8]) -> Result<Option<Expr>, AllocError>
     ensures { IfOk result (λ expr. expr ≡ expression_of text.now) }
 {
-    let Some(expression) = without_prefix(b"where ", text) else {
-        return Ok(None);
-    };
-    let Some(expression) = text_of(expression) else {
+    let Some(expression) = text_of(text) else {
         return Ok(None);
     };
     match read(alloc, expression) {

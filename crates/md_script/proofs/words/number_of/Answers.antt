@@ -1,6 +1,6 @@
 use Rattle.std.proofs.Common.{rules}
 use Rattle.md_script.proofs.Numerals.{no_number, no_text, parsed, not_parsed}
-use Rattle.md_script.proofs.words.query_number.Goals as goal
+use Rattle.md_script.proofs.words.number_of.Goals as goal
 
 pub returns-then-not-is_numeral : goal.returns-then-not-is_numeral
 returns-then-not-is_numeral c = no_number c.args.text.now (search rules)
