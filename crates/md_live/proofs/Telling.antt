@@ -15,6 +15,7 @@ use Rattle.md_render.specs.Texts.{journal_text}
 use Rattle.md_render.proofs.Joined.{journal_text-append}
 use Rattle.md_script.specs.declared.script.What.{What}
 use Rattle.md_script.specs.declared.script.What.TheVariants as what
+use Rattle.md_live.specs.Moments.{moment_of}
 use Rattle.md_live.specs.Files.{put_file, change_of}
 use Rattle.md_live.specs.Events.{after_commit, end_of, after_draw, job, line_events, entries_from}
 use Rattle.md_live.specs.Telling.{Telling, told}
@@ -47,9 +48,14 @@ few_in_job : (s : State) (path : PathBytes) (c : Option Change) → length (job 
 few_in_job s path c = omega (arith, few_after_draw (step s (event.Draw path)).state c (step s (event.Draw path)).reply)
 
 -- a line has at most three events
-pub few_events : (now offset : ℤ) (s : State) (w : What) → length (line_events now offset s w) ≤ 3
-few_events now offset s (what.Put path text) = few_in_job s path (change_of (put_file now offset path text))
-few_events now offset s (what.Remove path) = few_in_job s path (Some change.Remove)
-few_events now offset s (what.Query client number expr) = omega arith
-few_events now offset s (what.Gather client number) = omega arith
-few_events now offset s (what.Poll client number) = omega arith
+pub few_events : (now offset : ℤ) (s : State) (ms : ℕ) (w : What) → length (line_events now offset s ms w) ≤ 3
+few_events now offset s ms (what.Put path text) = few_in_job s path (change_of (put_file (moment_of now ms) offset path text))
+few_events now offset s ms (what.Remove path) = few_in_job s path (Some change.Remove)
+few_events now offset s ms (what.Query client number expr scope order batch) = omega arith
+few_events now offset s ms (what.Gather client number) = omega arith
+few_events now offset s ms (what.Poll client number) = omega arith
+few_events now offset s ms (what.Disable client number) = omega arith
+few_events now offset s ms (what.Enable client number) = omega arith
+few_events now offset s ms (what.Stop client number) = omega arith
+few_events now offset s ms (what.Import path) = omega arith
+few_events now offset s ms (what.Show client number) = omega arith

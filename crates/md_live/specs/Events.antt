@@ -9,13 +9,13 @@ use Rattle.md_machine.specs.declared.Event.TheVariants as event
 use Rattle.md_machine.specs.declared.Reply.{Reply}
 use Rattle.md_machine.specs.declared.Reply.TheVariants as reply
 use Rattle.md_machine.specs.Answers.{asked}
-use Rattle.md_machine.specs.declared.TheConstants.Batch.{NONE}
 use Rattle.md_machine.specs.States.{State}
 use Rattle.md_machine.specs.Steps.{step}
 use Rattle.md_machine.specs.Runs.{Entry, run_from}
 use Rattle.md_script.specs.declared.script.What.{What}
 use Rattle.md_script.specs.declared.script.What.TheVariants as what
 use Rattle.md_script.specs.declared.script.Line.{Line}
+use Rattle.md_live.specs.Moments.{moment_of}
 use Rattle.md_live.specs.Files.{put_file, change_of}
 
 -- after the reply to its commit, a job closes its ticket if the store was full
@@ -37,20 +37,24 @@ after_draw s change _ = []
 abbrev pub job : State → PathBytes → Option Change → List Event
 job s path change = event.Draw path ∷ after_draw (step s (event.Draw path)).state change (step s (event.Draw path)).reply
 
--- the events of a line in a state: a file that is put was changed now, a query's forms of time are told from now at the
--- offset and it asks for files anywhere, by their paths and without batches, and each event is at 0 milliseconds
-abbrev pub line_events : ℤ → ℤ → State → What → List Event
-line_events now offset s (what.Put path text) = job s path (change_of (put_file now offset path text))
-line_events now offset s (what.Remove path) = job s path (Some change.Remove)
-line_events now offset s (what.Query client number expr) = event.Create client number (asked expr now offset [] [] NONE) ∷ []
-line_events now offset s (what.Gather client number) = event.Gather client number 0 ∷ []
-line_events now offset s (what.Poll client number) = event.Poll client number 0 ∷ []
+-- the events of a line in a state, at its milliseconds in a run that began now at an offset: a file that is put was changed
+-- at the line's moment, and a query's forms of time are told from it
+abbrev pub line_events : ℤ → ℤ → State → ℕ → What → List Event
+line_events now offset s ms (what.Put path text) = job s path (change_of (put_file (moment_of now ms) offset path text))
+line_events now offset s ms (what.Remove path) = job s path (Some change.Remove)
+line_events now offset s ms (what.Query client number expr scope order batch) = event.Create client number (asked expr (moment_of now ms) offset scope order batch) ∷ []
+line_events now offset s ms (what.Gather client number) = event.Gather client number ms ∷ []
+line_events now offset s ms (what.Poll client number) = event.Poll client number ms ∷ []
+line_events now offset s ms (what.Disable client number) = event.Disable client number ∷ []
+line_events now offset s ms (what.Enable client number) = event.Enable client number ms ∷ []
+line_events now offset s ms (what.Stop client number) = event.Stop client number ∷ []
+line_events now offset s ms _ = []
 
 -- the events of the lines in turn, from a state
 abbrev pub events_from : ℤ → ℤ → State → List Line → List Event
 events_from now offset s [] = []
 events_from now offset s (line ∷ lines) =
-    line_events now offset s line.what ++ events_from now offset (run_from s (line_events now offset s line.what)).last lines
+    line_events now offset s line.at_ms line.what ++ events_from now offset (run_from s (line_events now offset s line.at_ms line.what)).last lines
 
 -- the events from a state, each beside its reply
 abbrev pub entries_from : State → List Event → List Entry

@@ -8,17 +8,18 @@ use Rattle.md_render.specs.Texts.{journal_text}
 use Rattle.md_script.specs.declared.script.What.{What}
 use Rattle.md_script.specs.declared.script.What.TheVariants as what
 use Rattle.md_script.specs.declared.script.Line.{Line}
+use Rattle.md_live.specs.Moments.{moment_of}
 use Rattle.md_live.specs.Files.{put_file, fault_line}
 use Rattle.md_live.specs.Events.{events_from}
 
 -- the lines on err of a line of the script
-abbrev pub complaint : ℤ → ℤ → What → List ℕ
-complaint now offset (what.Put path text) = fault_line path (put_file now offset path text)
-complaint now offset _ = []
+abbrev pub complaint : ℤ → ℤ → ℕ → What → List ℕ
+complaint now offset ms (what.Put path text) = fault_line path (put_file (moment_of now ms) offset path text)
+complaint now offset ms _ = []
 
 -- the lines on err, in the order of the script
 abbrev pub complaints : ℤ → ℤ → List Line → List ℕ
-complaints now offset lines = flat_map (λ line. complaint now offset line.what) lines
+complaints now offset lines = flat_map (λ line. complaint now offset line.at_ms line.what) lines
 
 -- the journal of the run of these lines now at the offset, from the opening state
 abbrev pub journal : ℤ → ℤ → List Line → List ℕ

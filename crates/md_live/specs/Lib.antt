@@ -1,3 +1,4 @@
+pub mod Moments
 pub mod Files
 pub mod Events
 pub mod TimeForms

@@ -5,18 +5,20 @@ use Rattle.md_match.specs.Forms.{first_out_of_range, capped}
 use Rattle.md_script.specs.declared.script.What.{What}
 use Rattle.md_script.specs.declared.script.What.TheVariants as what
 use Rattle.md_script.specs.declared.script.Line.{Line}
+use Rattle.md_live.specs.Moments.{moment_of}
 
--- the number of the first form of time of a line, from 1, whose moment is out of range now at the offset; no number is above 2 ^ 32 - 1
+-- the number of the first form of time of a line, from 1, whose moment is out of range, told from a moment at an offset; no number is above 2 ^ 32 - 1
 abbrev pub form_out : ℤ → ℤ → What → Option ℕ
-form_out now offset (what.Query client number expr) = option_map capped (first_out_of_range now offset expr)
-form_out now offset _ = None
+form_out moment offset (what.Query client number expr scope order batch) = option_map capped (first_out_of_range moment offset expr)
+form_out moment offset _ = None
 
 -- the first, or the second where there is none
 abbrev pub first_of : Option (ℕ × ℕ) → Option (ℕ × ℕ) → Option (ℕ × ℕ)
 first_of (Some x) other = Some x
 first_of None other = other
 
--- the number of the first line with such a form, and the form's number
+-- the number of the first line with such a form, and the form's number, in a run that began now
 abbrev pub out_of_range : ℤ → ℤ → List Line → Option (ℕ × ℕ)
 out_of_range now offset [] = None
-out_of_range now offset (line ∷ lines) = first_of (option_map (λ form. (line.number, form)) (form_out now offset line.what)) (out_of_range now offset lines)
+out_of_range now offset (line ∷ lines) =
+    first_of (option_map (λ form. (line.number, form)) (form_out (moment_of now line.at_ms) offset line.what)) (out_of_range now offset lines)

@@ -1,6 +1,7 @@
 //! The command `live`: the lines of a script, run one after the other over a server of their own.
 #![tactic(auto)]
 
+mod moments;
 mod printed;
 mod session;
 mod time_forms;

@@ -3,16 +3,15 @@ ghost use Rattle.std.specs.Prelude.{◌≡◌, ◌+◌, ◌*◌, ◌<◌, ◌≤
 ghost use Rattle.md_value.specs.Values.{IsMoment};
 ghost use Rattle.md_world.specs.declared.TheConstants.Limits.{STANDARD};
 ghost use Rattle.md_machine.specs.Answers.{asked};
-ghost use Rattle.md_machine.specs.declared.TheConstants.Batch.{NONE};
 ghost use Rattle.md_machine.specs.States.{opening};
 ghost use Rattle.md_machine.specs.Steps.{step};
-ghost use Rattle.md_script.specs.declared.script.What.TheVariants.{Put};
-ghost use Rattle.md_live.specs.Files.{fault_line};
+ghost use Rattle.md_live.specs.Files.{put_file, change_of, fault_line};
 ghost use Rattle.md_live.specs.Events.{end_of, job};
 ghost use Rattle.md_live.specs.Journals.{printed};
-ghost use Rattle.md_live.specs.Telling.{Telling, told, complained, after_line};
+ghost use Rattle.md_live.specs.Telling.{Telling, told, complained, after_line, asked_events};
 
 use crate::Printed;
+use crate::moments::moment_of;
 use imp_kind::{Imported, import};
 use md_expr_tree::Expr;
 use md_hub::Hub;
@@ -56,21 +55,22 @@ impl Model for Session {
     ghost view = { λ s. record { state = s.hub; text = string_bytes s.text; err = string_bytes s.err; next = s.next } };
 }
 
-// What asks for the files that satisfy the expression, anywhere, by their paths and without batches. No form of time is
-// out of range where this is called; if one were, this would answer want of memory.
-fn spec_of(alloc: Global, expr: &Expr, setting: &Setting) -> Result<Spec, AllocError>
-    ensures { IfOk result (λ spec. spec ≡ asked expr.now setting.now.moment setting.now.offset [] [] NONE) }
+// What a query asks. No form of time is out of range where this is called; if one were, this would answer want of memory.
+fn spec_of(
+    alloc: Global,
+    expr: &Expr,
+    moment: i64,
+    offset: i32,
+    scope: &Path,
+    order: &Order,
+    batch: Batch,
+) -> Result<Spec, AllocError>
+    ensures { IfOk result (λ spec. spec ≡ asked expr.now moment offset scope.now order.now batch) }
 {
     let expr = expr.copy(alloc)?;
-    let order = Order::by_path(alloc);
-    match Spec::new(
-        expr,
-        setting.moment,
-        setting.offset,
-        Path::root(alloc),
-        order,
-        Batch::NONE,
-    ) {
+    let scope = scope.copy(alloc)?;
+    let order = order.copy(alloc)?;
+    match Spec::new(expr, moment, offset, scope, order, batch) {
         Ok(spec) => Ok(spec),
         Err(_) => Err(AllocError),
     }
@@ -149,25 +149,26 @@ impl Session {
         self.err.push_str(line.as_str())
     }
 
-    // Puts a file with this content at the path.
+    // Puts a file with this content at the path, which was changed at this moment.
     fn put(
         &mut self,
         alloc: Global,
-        setting: &Setting,
+        moment: i64,
+        offset: i32,
         path: &Path,
         content: &Content,
     ) -> Result<(), AllocError>
         requires room { self.old.next + 3 < 2 ^ 64 }
-        requires moment { IsMoment setting.now.moment }
-        ensures { OnOk result (self.new ≡ after_line setting.now.moment setting.now.offset self.old (Put path.now content.now)) }
+        requires moment { IsMoment moment }
+        ensures { OnOk result (self.new ≡ complained (told self.old (job self.old.state path.now (change_of (put_file moment offset path.now content.now)))) (fault_line path.now (put_file moment offset path.now content.now))) }
     {
         let bytes = content.as_str().as_bytes();
         let entry = Entry {
             path: path.copy(alloc)?,
             size: bytes.len() as u64,
-            changed: setting.moment,
+            changed: moment,
         };
-        match import(alloc, &entry, bytes, setting.offset) {
+        match import(alloc, &entry, bytes, offset) {
             Imported::Attrs(attrs) => self.job(alloc, path, Some(Change::Put(attrs))),
             Imported::Fault(fault) => {
                 self.job(alloc, path, None)?;
@@ -177,20 +178,58 @@ impl Session {
         }
     }
 
-    fn line(&mut self, alloc: Global, setting: &Setting, what: &What) -> Result<(), AllocError>
+    // Asks a query for something, at a moment in milliseconds. Other lines ask for nothing.
+    fn ask_query(&mut self, alloc: Global, ms: u64, what: &What) -> Result<(), AllocError>
+        requires { self.old.next + 1 < 2 ^ 64 }
+        ensures { OnOk result (self.new ≡ told self.old (asked_events ms what.now)) }
+    {
+        let event = match what {
+            What::Gather { client, number } => Event::Gather {
+                client: *client,
+                number: *number,
+                now_ms: ms,
+            },
+            What::Poll { client, number } => Event::Poll {
+                client: *client,
+                number: *number,
+                now_ms: ms,
+            },
+            What::Disable { client, number } => Event::Disable {
+                client: *client,
+                number: *number,
+            },
+            What::Enable { client, number } => Event::Enable {
+                client: *client,
+                number: *number,
+                now_ms: ms,
+            },
+            What::Stop { client, number } => Event::Stop {
+                client: *client,
+                number: *number,
+            },
+            _ => return Ok(()),
+        };
+        self.ask(alloc, &event)
+    }
+
+    fn line(&mut self, alloc: Global, setting: &Setting, line: &Line) -> Result<(), AllocError>
         requires room { self.old.next + 3 < 2 ^ 64 }
         requires moment { IsMoment setting.now.moment }
-        ensures { OnOk result (self.new ≡ after_line setting.now.moment setting.now.offset self.old what.now) }
+        ensures { OnOk result (self.new ≡ after_line setting.now.moment setting.now.offset self.old line.now.at_ms line.now.what) }
     {
-        match what {
-            What::Put { path, text } => self.put(alloc, setting, path, text),
+        let moment = moment_of(setting.moment, line.at_ms);
+        match &line.what {
+            What::Put { path, text } => self.put(alloc, moment, setting.offset, path, text),
             What::Remove { path } => self.job(alloc, path, Some(Change::Remove)),
             What::Query {
                 client,
                 number,
                 expr,
+                scope,
+                order,
+                batch,
             } => {
-                let spec = spec_of(alloc, expr, setting)?;
+                let spec = spec_of(alloc, expr, moment, setting.offset, scope, order, *batch)?;
                 let event = Event::Create {
                     client: *client,
                     number: *number,
@@ -198,22 +237,7 @@ impl Session {
                 };
                 self.ask(alloc, &event)
             }
-            What::Gather { client, number } => {
-                let event = Event::Gather {
-                    client: *client,
-                    number: *number,
-                    now_ms: 0,
-                };
-                self.ask(alloc, &event)
-            }
-            What::Poll { client, number } => {
-                let event = Event::Poll {
-                    client: *client,
-                    number: *number,
-                    now_ms: 0,
-                };
-                self.ask(alloc, &event)
-            }
+            what => self.ask_query(alloc, line.at_ms, what),
         }
     }
 }
@@ -232,7 +256,7 @@ pub fn run(alloc: Global, now: i64, offset: i32, lines: &[Line]) -> Result<Print
     };
     let mut session = Session::new(alloc);
     for line in lines {
-        session.line(alloc, &setting, &line.what)?;
+        session.line(alloc, &setting, line)?;
     }
     Ok(Printed {
         out: session.text,

@@ -18,7 +18,7 @@ pub enum What {
         path: Path,
         text: Content,
     },
-    /// `import PATH`: a job whose file is read from the tree.
+    /// `import PATH`: a job whose file is read from the tree; no reader gives it yet.
     Import {
         path: Path,
     },
@@ -63,7 +63,7 @@ pub enum What {
         client: u8,
         number: u32,
     },
-    /// `cC show N`: prints what the client holds, and is no event.
+    /// `cC show N`: prints what the client holds, and is no event; no reader gives it yet.
     Show {
         client: u8,
         number: u32,

@@ -103,9 +103,9 @@ fn all_shown(alloc: Global, scripts: &[&[u8]]) -> Result<String, Fail> {
 #[test]
 fn numbers_lines_and_moments(rt: HostRuntime) -> Result<(), Fail> {
     let script =
-        b"\n# note\n\nat 100\nput a.txt one\r\nat 4294967295\nat 007\n#\nc0 poll 1\nat 0\nimport a.txt\n\r\nremove a.txt\r";
+        b"\n# note\n\nat 100\nput a.txt one\r\nat 4294967295\nat 007\n#\nc0 poll 1\nat 0\nput b.csv\n\r\nremove a.txt\r";
     let said =
-        "5 at 100: put [a.txt] [one]\n9 at 7: c0 poll 1\n11 at 0: import [a.txt]\n13 at 0: remove [a.txt\r]\n";
+        "5 at 100: put [a.txt] [one]\n9 at 7: c0 poll 1\n11 at 0: put [b.csv] []\n13 at 0: remove [a.txt\r]\n";
     assert_eq!(rt; shown(rt.alloc(), script)?.as_str(), said);
     Ok(())
 }
@@ -120,8 +120,8 @@ const FILES: [&[u8]; 15] = [
     b"put a\\sb\\t\\n\\r\\\\c x\\ny\\t\\r\\\\\\s",
     b"put \xc3\xa9.pdf \xc3\xa9",
     b"put .hidden/a #",
-    b"import a\\sb.csv",
-    b"import docs/a.txt",
+    b"put a\\sb.csv",
+    b"put docs/a.txt",
     b"remove a.csv\r\n\r\n",
     b"remove a\\\\b",
     b"at 5\nremove a\nput b",
@@ -129,7 +129,7 @@ const FILES: [&[u8]; 15] = [
 ];
 
 const SAID_OF_FILES: &str =
-    "1 at 0: put [a.txt] []\n1 at 0: put [a.txt] []\n1 at 0: put [b/A.csv] [ two  words ]\n1 at 0: put [plain] []\n1 at 0: put [a.json] [{\"kMDItemStarRating\": 4.5}]\n1 at 0: put [a b\t\n\r\\c] [x\ny\t\r\\ ]\n1 at 0: put [é.pdf] [é]\n1 at 0: put [.hidden/a] [#]\n1 at 0: import [a b.csv]\n1 at 0: import [docs/a.txt]\n1 at 0: remove [a.csv]\n1 at 0: remove [a\\b]\n2 at 5: remove [a]\n3 at 5: put [b] []\n";
+    "1 at 0: put [a.txt] []\n1 at 0: put [a.txt] []\n1 at 0: put [b/A.csv] [ two  words ]\n1 at 0: put [plain] []\n1 at 0: put [a.json] [{\"kMDItemStarRating\": 4.5}]\n1 at 0: put [a b\t\n\r\\c] [x\ny\t\r\\ ]\n1 at 0: put [é.pdf] [é]\n1 at 0: put [.hidden/a] [#]\n1 at 0: put [a b.csv] []\n1 at 0: put [docs/a.txt] []\n1 at 0: remove [a.csv]\n1 at 0: remove [a\\b]\n2 at 5: remove [a]\n3 at 5: put [b] []\n";
 
 #[test]
 fn reads_jobs(rt: HostRuntime) -> Result<(), Fail> {
@@ -143,7 +143,7 @@ const EVENTS: [&[u8]; 8] = [
     b"c0 disable 0",
     b"c1 enable 1",
     b"c2 stop 2",
-    b"c3 show 3",
+    b"c3 stop 3",
     b"c0000256 poll 1",
     b"c0 vacuum",
 ];
@@ -151,7 +151,7 @@ const EVENTS: [&[u8]; 8] = [
 #[test]
 fn reads_events(rt: HostRuntime) -> Result<(), Fail> {
     let said =
-        "1 at 0: c255 gather 4294967295\n1 at 0: c0 poll 7\n1 at 0: c0 disable 0\n1 at 0: c1 enable 1\n1 at 0: c2 stop 2\n1 at 0: c3 show 3\nbad 1\nbad 1\n";
+        "1 at 0: c255 gather 4294967295\n1 at 0: c0 poll 7\n1 at 0: c0 disable 0\n1 at 0: c1 enable 1\n1 at 0: c2 stop 2\n1 at 0: c3 stop 3\nbad 1\nbad 1\n";
     assert_eq!(rt; all_shown(rt.alloc(), &EVENTS)?.as_str(), said);
     Ok(())
 }
@@ -212,9 +212,9 @@ const BAD_LINES: [&[u8]; 36] = [
     b"put a.txt \\",
     b"put a.txt {\xff",
     b"#\xff",
-    b"import",
-    b"import .",
-    b"import a b",
+    b"import a.txt",
+    b"c0 show 1",
+    b"remove .",
     b"remove a ",
     b" remove a",
     b"Put a x",

@@ -21,15 +21,15 @@ loop-line-preserved c =
     let line = c.line-item.result in
     let lines = c.args.lines.now in
     let rest = drop (l.line-index + 1) lines in
-    let events = line_events now offset t.state line.what in
-    let new : c.line.new.self ≡ after_line now offset t line.what = simp to_z-of_z at c.in_ok-line.ensures in
+    let events = line_events now offset t.state line.at_ms line.what in
+    let new : c.line.new.self ≡ after_line now offset t line.at_ms line.what = simp to_z-of_z at c.in_ok-line.ensures in
     let left = λ (t : Telling) (ls : List Line). t.text ++ journal_text t.next (entries_from t.state (events_from now offset t.state ls)) in
     let places : c.line.new.self.next ≡ t.next + length events = ap (λ (t : Telling). t.next) new in
     let before = l.invariant.few in
     let whole = simp to_z-of_z at l.invariant.rest in
     let faulted = simp to_z-of_z at l.invariant.faults in
     record {
-      few = omega (arith, places, before, few_events now offset t.state line.what);
+      few = omega (arith, places, before, few_events now offset t.state line.at_ms line.what);
       rest =
           simp to_z-of_z (ap (λ (t : Telling). left t rest) new
           ∙ told_then t events (events_from now offset (run_from t.state events).last rest)
@@ -38,7 +38,7 @@ loop-line-preserved c =
           ∙ whole);
       faults =
           simp to_z-of_z (ap (λ (t : Telling). t.err ++ complaints now offset rest) new
-          ∙ append_assoc t.err (complaint now offset line.what) (complaints now offset rest)
+          ∙ append_assoc t.err (complaint now offset line.at_ms line.what) (complaints now offset rest)
           ∙ ap (λ (x : Line). t.err ++ complaints now offset (x ∷ rest)) c.line-item.is
           ∙ sym (at_drop_more (λ ls. t.err ++ complaints now offset ls) lines l.line-index line c.loop-line-test.true)
           ∙ faulted);
