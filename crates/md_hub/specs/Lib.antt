@@ -1,5 +1,3 @@
-pub mod Rows
-pub mod Views
 pub mod Asked
 pub mod Places
 pub mod States

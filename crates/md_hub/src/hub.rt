@@ -3,15 +3,16 @@ ghost use Rattle.std.specs.Prelude.{◌≡◌, IfOk, OnOk, OnErr, true, false};
 ghost use Rattle.md_machine.specs.Replies.{delivers, takes_memory};
 ghost use Rattle.md_machine.specs.States.{opening, ticket_at, query_at};
 ghost use Rattle.md_machine.specs.Steps.{step, asked};
-ghost use Rattle.md_hub.specs.Asked.{answered};
+ghost use Rattle.md_query.specs.Asked.{answered};
 ghost use Rattle.md_hub.specs.Verdicts.{verdict_of};
 ghost use Rattle.md_hub.specs.Stepping.{IsStep};
 
 use crate::desk::{self, LastCommit, OpenTicket};
 use crate::queries::{self, Call};
-use crate::query::{Ask, LiveQuery};
-use crate::{edits, tables};
+use crate::query::LiveQuery;
+use crate::edits;
 use md_machine::{Event, Reply, Spec};
+use md_query::{Ask, copy_rows};
 use md_value::{Copied, Path};
 use md_world::{Change, Limits, Row};
 use std::alloc::{AllocError, Global};
@@ -327,7 +328,7 @@ impl Hub {
     pub fn rows(&self, alloc: Global) -> Result<Vec<Row>, AllocError>
         ensures rows { IfOk result (λ rows. rows.items ≡ self.now.table) }
     {
-        tables::copy_rows(alloc, &self.table)
+        copy_rows(alloc, &self.table)
     }
 
     /// The reply to an event. Where memory runs out it is `Memory`, and nothing has changed.

@@ -7,7 +7,6 @@ mod hub;
 mod queries;
 mod query;
 mod runs;
-mod tables;
 
 pub use hub::Hub;
 pub use runs::run;

@@ -1,0 +1,399 @@
+// One query: what it answers when it is asked, and what that makes of it.
+ghost use Rattle.std.specs.Prelude.{◌≡◌, ℕ, ◌==◌, ◌≤◌, ◌<◌, ◌+◌, ◌^◌, IfOk, OnErr, Bool, true, false, take, drop, map, length};
+ghost use Rattle.md_machine.specs.Answers.{answer, shown_answer, diff, notice_of};
+ghost use Rattle.md_machine.specs.Replies.{takes_memory};
+ghost use Rattle.md_machine.specs.States.{Gathering, Finished};
+ghost use Rattle.md_machine.specs.Steps.{disable, gather, enable, poll, last_part, next_part, most_hits};
+ghost use Rattle.md_world.specs.Tables.{shown};
+ghost use Rattle.md_world.specs.Differences.{items_of};
+ghost use Rattle.md_query.specs.Rows.{rows_of, condition_of};
+ghost use Rattle.md_query.specs.Standings.{query_of, nameless, is_finished};
+ghost use Rattle.md_query.specs.Asked.{newest_state, answered, settled};
+
+use crate::asking::{self, Answer, Ask, Effect};
+use crate::tables;
+use md_machine::{Reply, Spec};
+use md_match::Filter;
+use md_value::Items;
+use md_world::{Limits, Part, Row, Rows};
+use std::alloc::{AllocError, Global};
+use std::marker::Model;
+
+/// How far a query is.
+#[derive(Clone, Copy, Debug, Drop)]
+pub enum Progressed {
+    Gathering(usize),
+    Finished,
+}
+
+/// A live query that holds its whole base table. Contracts see all that the machine's query is but its client and number.
+#[derive(Drop)]
+pub struct Query {
+    spec: Spec,
+    filter: Filter,
+    phase: Progressed,
+    base: u32,
+    rows: Rows,
+    disables: u32,
+    delivered: u64,
+}
+
+impl Model for Query {
+    ghost use Rattle.md_query.specs.Standings.{Standing, phase_of};
+
+    ghost Value = { Standing };
+
+    ghost use Rattle.md_expr_tree.specs.contracts.tree.Expr as expr;
+    ghost use Rattle.std.specs.Coded.{codes};
+
+    ghost coded = { Prim.hlevel (codes, expr.the_row.coded) };
+
+    ghost view = { λ q. record { spec = q.spec; phase = phase_of q.phase; base = q.base; rows = q.rows; disables = q.disables; delivered = q.delivered } };
+
+    ghost use Rattle.std.specs.Prelude.{◌≡◌};
+    ghost use Rattle.md_query.specs.Rows.{condition_of};
+
+    ghost invariant = { λ q. q.filter ≡ condition_of q.spec };
+}
+
+// An answer that leaves the query as it is.
+fn kept(reply: Reply) -> Answer
+    ensures reply { result.reply ≡ reply }
+    ensures effect { result.effect ≡ Effect.Keep }
+{
+    Answer {
+        reply,
+        effect: Effect::Keep,
+    }
+}
+
+impl Query {
+    /// A query of this spec that has given nothing, and whose base is this version with this table. Takes no memory.
+    pub fn start(spec: Spec, filter: Filter, base: Vec<Row>, version: u32) -> Query
+        requires { filter ≡ condition_of spec }
+        ensures { result ≡ record { spec = spec; phase = Gathering 0; base = version; rows = base.items; disables = 0; delivered = 0 } }
+    {
+        Query {
+            spec,
+            filter,
+            phase: Progressed::Gathering(0),
+            base: version,
+            rows: Items::from_vec(base),
+            disables: 0,
+            delivered: 0,
+        }
+    }
+
+    /// The version that it speaks of. Takes no memory.
+    pub fn base(&self) -> u32
+        ensures { result ≡ self.now.base }
+    {
+        self.base
+    }
+
+    /// How many disables no enable has matched. Takes no memory.
+    pub fn disables(&self) -> u32
+        ensures { result ≡ self.now.disables }
+    {
+        self.disables
+    }
+
+    /// Whether all hits are given. Takes no memory.
+    pub fn finished(&self) -> bool
+        ensures { result ≡ is_finished self.now.phase }
+    {
+        match self.phase {
+            Progressed::Gathering(_) => false,
+            Progressed::Finished => true,
+        }
+    }
+
+    // The rows of a table that the query asks for.
+    #[tactic(auto, using(crate::proofs::Hits::passes_answer))]
+    fn hits<'a>(&self, alloc: Global, table: &'a [Row]) -> Result<Vec<&'a Row>, AllocError>
+        ensures { IfOk result (λ hits. rows_of hits.items ≡ answer self.now.spec table.now) }
+    {
+        tables::passing(alloc, &self.filter, table)
+    }
+
+    fn last_part(&self, alloc: Global, left: &[&Row], now_ms: u64) -> Result<Answer, AllocError>
+        ensures reply { IfOk result (λ a. a.reply ≡ (last_part (nameless self.now) (map shown (rows_of left.now)) now_ms).reply) }
+        ensures query { IfOk result (λ a. nameless (settled self.now a.effect) ≡ (last_part (nameless self.now) (map shown (rows_of left.now)) now_ms).query) }
+    {
+        let hits = tables::shown(alloc, left)?;
+        let part = Part {
+            hits: Items::from_vec(hits),
+            last: true,
+        };
+        Ok(Answer {
+            reply: Reply::Finished(part, self.base),
+            effect: Effect::Finish(now_ms),
+        })
+    }
+
+    #[tactic(auto, using(crate::proofs::Hits::shown_front))]
+    fn limited_part(
+        &self,
+        alloc: Global,
+        given: usize,
+        left: &[&Row],
+        most: usize,
+    ) -> Result<Answer, AllocError>
+        requires enough { most ≤ length left.now }
+        requires room { given + most < 2 ^ 64 }
+        ensures reply { IfOk result (λ a. a.reply ≡ Reply.Progress (record { hits = take most (map shown (rows_of left.now)); last = false })) }
+        ensures query { IfOk result (λ a. nameless (settled self.now a.effect) ≡ record (nameless self.now) { phase = Gathering (given + most) }) }
+    {
+        let hits = tables::shown(alloc, &left[..most])?;
+        let part = Part {
+            hits: Items::from_vec(hits),
+            last: false,
+        };
+        Ok(Answer {
+            reply: Reply::Progress(part),
+            effect: Effect::Give(given + most),
+        })
+    }
+
+    fn part(
+        &self,
+        alloc: Global,
+        given: usize,
+        left: &[&Row],
+        now_ms: u64,
+    ) -> Result<Answer, AllocError>
+        requires { 0 < length left.now → given + length left.now < 2 ^ 64 }
+        ensures reply { IfOk result (λ a. a.reply ≡ (next_part (nameless self.now) given (map shown (rows_of left.now)) (most_hits self.now.spec.batch given) now_ms).reply) }
+        ensures query { IfOk result (λ a. nameless (settled self.now a.effect) ≡ (next_part (nameless self.now) given (map shown (rows_of left.now)) (most_hits self.now.spec.batch given) now_ms).query) }
+    {
+        match asking::most_hits(&self.spec.batch, given) {
+            Some(most) if most as usize <= left.len() => {
+                self.limited_part(alloc, given, left, most as usize)
+            }
+            _ => self.last_part(alloc, left, now_ms),
+        }
+    }
+
+    #[tactic(auto, using(crate::proofs::Hits::shown_left))]
+    fn next_part(&self, alloc: Global, given: usize, now_ms: u64) -> Result<Answer, AllocError>
+        ensures reply { IfOk result (λ a. a.reply ≡ (next_part (nameless self.now) given (drop given (shown_answer self.now.spec self.now.rows)) (most_hits self.now.spec.batch given) now_ms).reply) }
+        ensures query { IfOk result (λ a. nameless (settled self.now a.effect) ≡ (next_part (nameless self.now) given (drop given (shown_answer self.now.spec self.now.rows)) (most_hits self.now.spec.batch given) now_ms).query) }
+        ensures memory { OnErr result (takes_memory (next_part (nameless self.now) given (drop given (shown_answer self.now.spec self.now.rows)) (most_hits self.now.spec.batch given) now_ms).reply ≡ true) }
+    {
+        let hits = self.hits(alloc, self.rows.as_slice())?;
+        let left = tables::hits_after(&hits, given);
+        self.part(alloc, given, left, now_ms)
+    }
+
+    fn gather(&self, alloc: Global, now_ms: u64) -> Result<Answer, AllocError>
+        ensures reply { IfOk result (λ a. a.reply ≡ (gather (nameless self.now) now_ms).reply) }
+        ensures query { IfOk result (λ a. nameless (settled self.now a.effect) ≡ (gather (nameless self.now) now_ms).query) }
+        ensures memory { OnErr result (takes_memory (gather (nameless self.now) now_ms).reply ≡ true) }
+    {
+        match self.phase {
+            Progressed::Finished => Ok(kept(Reply::AlreadyFinished(self.base))),
+            Progressed::Gathering(given) => {
+                if self.disables > 0 {
+                    Ok(kept(Reply::Held(self.disables)))
+                } else {
+                    self.next_part(alloc, given, now_ms)
+                }
+            }
+        }
+    }
+
+    fn disable(&self, limits: &Limits) -> Answer
+        ensures reply { result.reply ≡ (disable limits.now (nameless self.now)).reply }
+        ensures query { nameless (settled self.now result.effect) ≡ (disable limits.now (nameless self.now)).query }
+    {
+        if self.disables < limits.disables {
+            Answer {
+                reply: Reply::Disabled(self.disables + 1),
+                effect: Effect::Count(self.disables + 1),
+            }
+        } else {
+            kept(Reply::TooDeep)
+        }
+    }
+
+    fn deliver(
+        &self,
+        alloc: Global,
+        now_ms: u64,
+        version: u32,
+        table: &[Row],
+    ) -> Result<Answer, AllocError>
+        ensures reply { IfOk result (λ a. a.reply ≡ Reply.Notice (notice_of (diff self.now.spec self.now.rows table.now) self.now.base version)) }
+        ensures query { IfOk result (λ a. nameless (settled self.now a.effect) ≡ record (nameless self.now) { base = version; rows = table.now; disables = 0; delivered = now_ms }) }
+    {
+        let old = self.hits(alloc, self.rows.as_slice())?;
+        let new = self.hits(alloc, table)?;
+        let notice = tables::notice(alloc, &old, &new, self.base, version)?;
+        let rows = tables::copy_rows(alloc, table)?;
+        Ok(Answer {
+            reply: Reply::Notice(notice),
+            effect: Effect::Deliver(version, Items::from_vec(rows), now_ms),
+        })
+    }
+
+    fn count_pending(&self, alloc: Global, table: &[Row]) -> Result<usize, AllocError>
+        ensures { IfOk result (λ items. items ≡ items_of (diff self.now.spec self.now.rows table.now)) }
+    {
+        let old = self.hits(alloc, self.rows.as_slice())?;
+        let new = self.hits(alloc, table)?;
+        Ok(tables::count_items(&old, &new))
+    }
+
+    fn enable(
+        &self,
+        alloc: Global,
+        now_ms: u64,
+        version: u32,
+        table: &[Row],
+        limits: &Limits,
+    ) -> Result<Answer, AllocError>
+        ensures reply { IfOk result (λ a. a.reply ≡ (enable (newest_state limits.now version table.now) (nameless self.now) now_ms).reply) }
+        ensures query { IfOk result (λ a. nameless (settled self.now a.effect) ≡ (enable (newest_state limits.now version table.now) (nameless self.now) now_ms).query) }
+        ensures memory { OnErr result (takes_memory (enable (newest_state limits.now version table.now) (nameless self.now) now_ms).reply ≡ true) }
+    {
+        if self.disables == 0 {
+            return Ok(kept(Reply::NotDisabled));
+        }
+        let left = self.disables - 1;
+        if left > 0 {
+            return Ok(Answer {
+                reply: Reply::StillDisabled(left),
+                effect: Effect::Count(left),
+            });
+        }
+        match self.phase {
+            Progressed::Gathering(_) => Ok(Answer {
+                reply: Reply::Resumed,
+                effect: Effect::Count(0),
+            }),
+            Progressed::Finished => self.deliver(alloc, now_ms, version, table),
+        }
+    }
+
+    fn poll_finished(
+        &self,
+        alloc: Global,
+        now_ms: u64,
+        version: u32,
+        table: &[Row],
+        limits: &Limits,
+    ) -> Result<Answer, AllocError>
+        requires finished { self.now.phase ≡ Finished }
+        requires not_held { self.now.disables ≡ 0 }
+        requires few { items_of (diff self.now.spec self.now.rows table.now) ≤ version }
+        ensures reply { IfOk result (λ a. a.reply ≡ (poll (newest_state limits.now version table.now) (nameless self.now) now_ms).reply) }
+        ensures query { IfOk result (λ a. nameless (settled self.now a.effect) ≡ (poll (newest_state limits.now version table.now) (nameless self.now) now_ms).query) }
+        ensures memory { OnErr result (takes_memory (poll (newest_state limits.now version table.now) (nameless self.now) now_ms).reply ≡ true) }
+    {
+        let items = self.count_pending(alloc, table)?;
+        if asking::is_due(
+            &self.spec.batch,
+            items,
+            now_ms.saturating_sub(self.delivered),
+        ) {
+            return self.deliver(alloc, now_ms, version, table);
+        }
+        Ok(kept(Reply::NotYet(items as u32)))
+    }
+
+    fn poll(
+        &self,
+        alloc: Global,
+        now_ms: u64,
+        version: u32,
+        table: &[Row],
+        limits: &Limits,
+    ) -> Result<Answer, AllocError>
+        requires { items_of (diff self.now.spec self.now.rows table.now) ≤ version }
+        ensures reply { IfOk result (λ a. a.reply ≡ (poll (newest_state limits.now version table.now) (nameless self.now) now_ms).reply) }
+        ensures query { IfOk result (λ a. nameless (settled self.now a.effect) ≡ (poll (newest_state limits.now version table.now) (nameless self.now) now_ms).query) }
+        ensures memory { OnErr result (takes_memory (poll (newest_state limits.now version table.now) (nameless self.now) now_ms).reply ≡ true) }
+    {
+        match self.phase {
+            Progressed::Gathering(_) => Ok(kept(Reply::NotFinished)),
+            Progressed::Finished => {
+                if self.disables > 0 {
+                    Ok(kept(Reply::Held(self.disables)))
+                } else {
+                    self.poll_finished(alloc, now_ms, version, table, limits)
+                }
+            }
+        }
+    }
+
+    // What it answers under whatever client and number.
+    fn answer(
+        &self,
+        alloc: Global,
+        ask: Ask,
+        now_ms: u64,
+        newest: u32,
+        table: &[Row],
+        limits: &Limits,
+    ) -> Result<Answer, AllocError>
+        requires { items_of (diff self.now.spec self.now.rows table.now) ≤ newest }
+        ensures reply { IfOk result (λ a. a.reply ≡ (answered (newest_state limits.now newest table.now) ask now_ms (nameless self.now)).reply) }
+        ensures query { IfOk result (λ a. nameless (settled self.now a.effect) ≡ (answered (newest_state limits.now newest table.now) ask now_ms (nameless self.now)).query) }
+        ensures memory { OnErr result (takes_memory (answered (newest_state limits.now newest table.now) ask now_ms (nameless self.now)).reply ≡ true) }
+    {
+        match ask {
+            Ask::Gather => self.gather(alloc, now_ms),
+            Ask::Disable => Ok(self.disable(limits)),
+            Ask::Enable => self.enable(alloc, now_ms, newest, table, limits),
+            Ask::Poll => self.poll(alloc, now_ms, newest, table, limits),
+        }
+    }
+
+    /// What it answers at this moment, in milliseconds, where `newest` is the newest version's number and `table` its
+    /// table, and what the answer makes of it. Nothing changes.
+    pub fn reply(
+        &self,
+        alloc: Global,
+        ask: Ask,
+        now_ms: u64,
+        newest: u32,
+        table: &[Row],
+        limits: &Limits,
+    ) -> Result<Answer, AllocError>
+        // There are no fewer versions than items that differ from the base.
+        requires { items_of (diff self.now.spec self.now.rows table.now) ≤ newest }
+        // The reply is the machine's, whatever the query's client and number.
+        ensures reply { IfOk result (λ a. (client number : ℕ) → a.reply ≡ (answered (newest_state limits.now newest table.now) ask now_ms (query_of client number self.now)).reply) }
+        // The effect makes of the query what the machine makes of it.
+        ensures query { IfOk result (λ a. (client number : ℕ) → query_of client number (settled self.now a.effect) ≡ (answered (newest_state limits.now newest table.now) ask now_ms (query_of client number self.now)).query) }
+        // Memory runs out at a reply that takes some.
+        ensures memory { OnErr result ((client number : ℕ) → takes_memory (answered (newest_state limits.now newest table.now) ask now_ms (query_of client number self.now)).reply ≡ true) }
+    {
+        self.answer(alloc, ask, now_ms, newest, table, limits)
+    }
+
+    /// Takes an answer's effect over. Cannot fail.
+    pub fn settle(&mut self, effect: Effect)
+        ensures { self.new ≡ settled self.old effect }
+    {
+        match effect {
+            Effect::Keep => {}
+            Effect::Give(given) => {
+                self.phase = Progressed::Gathering(given);
+            }
+            Effect::Finish(now_ms) => {
+                self.phase = Progressed::Finished;
+                self.delivered = now_ms;
+            }
+            Effect::Count(count) => {
+                self.disables = count;
+            }
+            Effect::Deliver(base, rows, now_ms) => {
+                self.base = base;
+                self.rows = rows;
+                self.disables = 0;
+                self.delivered = now_ms;
+            }
+        }
+    }
+}
