@@ -1,9 +1,13 @@
+ghost use Rattle.md_value.specs.Values.{IsInRange};
+
 use crate::{Failure, attrs_text, escaped, failure_text, fault_text, push_path, shown_path};
 use md_value::{Attrs, Fault, Name, Path, Text, Value};
 use std::alloc::Global;
 use std::test::Fail;
 
-fn put(alloc: Global, attrs: &mut Attrs, name: &str, value: Value) -> Result<(), Fail> {
+fn put(alloc: Global, attrs: &mut Attrs, name: &str, value: Value) -> Result<(), Fail>
+    requires { IsInRange value }
+{
     let values = vec![in alloc; value]?;
     attrs.put(Name::read(alloc, name)?, values)?;
     Ok(())
