@@ -51,7 +51,7 @@ fn worse(end: End, other: End) -> End
 
 impl Report {
     /// Nothing asked and nothing printed. Takes no memory.
-    pub(crate) fn new(alloc: Global) -> Report
+    pub fn new(alloc: Global) -> Report
         ensures { result ≡ no_report }
     {
         Report {
@@ -103,13 +103,9 @@ impl Report {
         self.push_err(line.as_str())
     }
 
-    /// Adds what became of a named file, but for the attributes that it gives.
-    pub(crate) fn add_named(
-        &mut self,
-        alloc: Global,
-        path: &Path,
-        asked: &Asked,
-    ) -> Result<(), AllocError>
+    /// Adds what became of a named file, but for the attributes that it gives: the end that it makes, and the line on err
+    /// on a fault, a file that is absent or one that could not be read. Fails only where memory runs out.
+    pub fn add_named(&mut self, alloc: Global, path: &Path, asked: &Asked) -> Result<(), AllocError>
         ensures { OnOk result (self.new ≡ noted self.old (named path.now asked.now)) }
     {
         match asked {
