@@ -5,7 +5,8 @@ ghost use Rattle.md_world.specs.declared.TheConstants.Limits.{STANDARD};
 ghost use Rattle.md_machine.specs.Answers.{asked};
 ghost use Rattle.md_machine.specs.States.{opening};
 ghost use Rattle.md_machine.specs.Steps.{step};
-ghost use Rattle.md_live.specs.Files.{put_file, change_of, fault_line};
+ghost use Rattle.md_script.specs.declared.script.What.TheVariants.{Put};
+ghost use Rattle.md_live.specs.Files.{fault_line};
 ghost use Rattle.md_live.specs.Events.{end_of, job};
 ghost use Rattle.md_live.specs.Journals.{printed};
 ghost use Rattle.md_live.specs.Telling.{Telling, told, complained, after_line, asked_events};
@@ -149,26 +150,26 @@ impl Session {
         self.err.push_str(line.as_str())
     }
 
-    // Puts a file with this content at the path, which was changed at this moment.
+    // Puts a file with this content at the path, at so many milliseconds of the run.
     fn put(
         &mut self,
         alloc: Global,
-        moment: i64,
-        offset: i32,
+        setting: &Setting,
+        ms: u64,
         path: &Path,
         content: &Content,
     ) -> Result<(), AllocError>
         requires room { self.old.next + 3 < 2 ^ 64 }
-        requires moment { IsMoment moment }
-        ensures { OnOk result (self.new ≡ complained (told self.old (job self.old.state path.now (change_of (put_file moment offset path.now content.now)))) (fault_line path.now (put_file moment offset path.now content.now))) }
+        requires moment { IsMoment setting.now.moment }
+        ensures { OnOk result (self.new ≡ after_line setting.now.moment setting.now.offset self.old ms (Put path.now content.now)) }
     {
         let bytes = content.as_str().as_bytes();
         let entry = Entry {
             path: path.copy(alloc)?,
             size: bytes.len() as u64,
-            changed: moment,
+            changed: moment_of(setting.moment, ms),
         };
-        match import(alloc, &entry, bytes, offset) {
+        match import(alloc, &entry, bytes, setting.offset) {
             Imported::Attrs(attrs) => self.job(alloc, path, Some(Change::Put(attrs))),
             Imported::Fault(fault) => {
                 self.job(alloc, path, None)?;
@@ -217,9 +218,8 @@ impl Session {
         requires moment { IsMoment setting.now.moment }
         ensures { OnOk result (self.new ≡ after_line setting.now.moment setting.now.offset self.old line.now.at_ms line.now.what) }
     {
-        let moment = moment_of(setting.moment, line.at_ms);
         match &line.what {
-            What::Put { path, text } => self.put(alloc, moment, setting.offset, path, text),
+            What::Put { path, text } => self.put(alloc, setting, line.at_ms, path, text),
             What::Remove { path } => self.job(alloc, path, Some(Change::Remove)),
             What::Query {
                 client,
@@ -229,6 +229,7 @@ impl Session {
                 order,
                 batch,
             } => {
+                let moment = moment_of(setting.moment, line.at_ms);
                 let spec = spec_of(alloc, expr, moment, setting.offset, scope, order, *batch)?;
                 let event = Event::Create {
                     client: *client,
