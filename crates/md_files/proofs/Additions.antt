@@ -1,12 +1,11 @@
 -- Findings that are added to a report, one after the other.
-use Rattle.std.proofs.Common.{◌≡◌, ℕ, Bool, true, false, ◌||◌, ◌&&◌, cond, not, List, [], ◌∷◌, ◌++◌, append_assoc, append-nil, refl, sym, ◌∙◌, ap}
-use Rattle.std.specs.List.{flat_map, list_any, join_by, filter_map}
+use Rattle.std.proofs.Common.{◌≡◌, Bool, true, false, ◌||◌, cond, List, [], ◌∷◌, ◌++◌, append_assoc, append-nil, refl}
+use Rattle.std.specs.List.{list_any}
 use Rattle.std.proofs.lemmas.Grind.{flat_map-append}
 use Rattle.std.proofs.lemmas.List.Folds.{list_any-append}
-use Rattle.std.proofs.lemmas.List.Elements.{filter_map-append}
-use Rattle.md_files.specs.Findings.{Finding, is_failed, is_absent, end_of, err_line, count_line, separator, shown_text, attrs_of}
-use Rattle.md_files.specs.Reports.{Report, report_of}
-use Rattle.md_files.specs.Additions.{worse, noted, counted, counted_all}
+use Rattle.md_files.specs.Findings.{Finding, is_failed, is_absent, end_of, err_line, count_line}
+use Rattle.md_files.specs.Reports.{Report}
+use Rattle.md_files.specs.Additions.{worse, counted, counted_all}
 use Rattle.md_files.specs.declared.report.End.{End}
 use Rattle.md_files.specs.declared.report.End.TheVariants as ended
 

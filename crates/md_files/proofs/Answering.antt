@@ -1,9 +1,9 @@
 -- What the answers of a tree give.
-use Rattle.std.proofs.Common.{◌≡◌, List, ℕ, ℤ, Option, Result, Ok, Err, IfOk, OnOk, refl, sym, ◌∙◌, ap}
+use Rattle.std.proofs.Common.{◌≡◌, List, ℕ, ℤ, Option, Result, Ok, Err, IfOk, OnOk, refl}
 use Rattle.md_source.specs.Tree.{Content}
 use Rattle.md_source.specs.declared.tree.Entry.{Entry}
 use Rattle.imp_kind.specs.Imports.{import}
-use Rattle.md_files.specs.Answers.{IsRead, IsFront, Gives, of_import, outcome}
+use Rattle.md_files.specs.Answers.{IsRead, IsFront, Gives, of_import}
 use Rattle.md_files.specs.Answers.Answer.{given}
 use Rattle.md_files.specs.declared.asking.Asked.{Asked}
 

@@ -1,21 +1,21 @@
 -- The causes of the ends.
-use Rattle.std.proofs.Common.{◌≡◌, ℕ, ℤ, Bool, true, false, ◌&&◌, ◌||◌, ◌+◌, ◌-◌, ◌^◌, ◌≤◌, min, List, [], ◌∷◌, ◌++◌, refl, sym, ◌∙◌, ap, subst, Option, Some, None, IfSome, Result, Ok, Err, arith}
-use Rattle.std.specs.List.{list_any, list_all}
+use Rattle.std.proofs.Common.{◌≡◌, ℕ, ℤ, Bool, true, false, ◌&&◌, ◌||◌, ◌+◌, ◌-◌, ◌^◌, ◌≤◌, min, List, [], ◌∷◌, refl, sym, ◌∙◌, ap, subst, Option, Some, None, IfSome, Result, Ok, Err, arith}
+use Rattle.std.specs.List.{list_any}
 use Rattle.std.specs.Option.{option_map}
 use Rattle.std.proofs.lemmas.List.Folds.{list_any-append}
 use Rattle.md_value.specs.Values.{PathBytes}
 use Rattle.md_value.specs.Attrs.{Attr}
 use Rattle.md_value.specs.declared.fault.Fault.{Fault}
 use Rattle.md_source.specs.Causes.{Rose}
-use Rattle.md_source.specs.Tree.{Content, File, file_at, entry_at}
+use Rattle.md_source.specs.Tree.{Content, File, file_at}
 use Rattle.md_source.specs.declared.tree.Entry.{Entry}
 use Rattle.imp_kind.specs.Imports.{import}
-use Rattle.md_files.specs.Answers.{Answer, IsAsked, IsRead, InTurn, AreAsked, HasNoFile, IsEntry, IsCounted, of_import, outcome, has_failed, failures}
+use Rattle.md_files.specs.Answers.{Answer, AreAsked, IsCounted, of_import, outcome, failures}
 use Rattle.md_files.specs.Answers.Answer.{given, absent, failed}
 use Rattle.md_files.specs.Folders.{Found, IsFound, AreFound, AreRead, found_failures, all_failures}
 use Rattle.md_files.specs.Folders.Found.{file, unfound, folder, unlisted, nothing}
-use Rattle.md_files.specs.Findings.{Finding, asked_findings, read_findings, found_findings, all_findings, is_failed, is_absent, end_of}
-use Rattle.md_files.specs.Findings.Finding.{named, listed, no_listing}
+use Rattle.md_files.specs.Findings.{asked_findings, read_findings, found_findings, all_findings, is_failed, is_absent}
+use Rattle.md_files.specs.Findings.Finding.{named, listed}
 use Rattle.md_files.specs.Reports.{Report, Shows, Imports, EndHasCause, tells_file, tells, tells_files, tells_all}
 use Rattle.md_files.specs.declared.report.End.{End}
 use Rattle.md_files.specs.declared.report.End.TheVariants as ended

@@ -1,12 +1,12 @@
 -- How many askings failed, and how the count of faults went with that.
-use Rattle.std.proofs.Common.{◌≡◌, ℕ, ◌+◌, ◌-◌, ◌^◌, ◌≤◌, min, cond, List, [], ◌∷◌, refl, sym, ◌∙◌, ap, Option, arith}
+use Rattle.std.proofs.Common.{◌≡◌, ℕ, ◌+◌, ◌-◌, ◌^◌, ◌≤◌, min, cond, List, [], ◌∷◌, sym, ◌∙◌, Option, arith}
 use Rattle.std.proofs.lemmas.List.Sums.{sum_by-append}
 use Rattle.md_value.specs.Values.{PathBytes}
 use Rattle.md_source.specs.Tree.{Content}
 use Rattle.md_source.specs.declared.tree.Entry.{Entry}
 use Rattle.md_files.specs.Answers.{Answer, IsAsked, IsRead, InTurn, AreAsked, Fails, IsCounted, has_failed, failures}
 use Rattle.md_files.specs.Answers.Answer.{given, absent, failed}
-use Rattle.md_files.specs.Folders.{Found, IsFound, AreFound, AreRead, found_failures, all_failures}
+use Rattle.md_files.specs.Folders.{Found, IsFound, AreFound, found_failures, all_failures}
 use Rattle.md_files.specs.Folders.Found.{file, unfound, folder, unlisted, nothing}
 
 -- the same with any end of the counts

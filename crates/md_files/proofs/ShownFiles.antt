@@ -1,5 +1,5 @@
 -- The attributes of files that are shown, one file after the other.
-use Rattle.std.proofs.Common.{◌≡◌, ℕ, ℤ, Bool, true, false, ◌||◌, ◌&&◌, cond, is_some, map, List, [], ◌∷◌, ◌++◌, append_assoc, append-nil, refl, sym, ◌∙◌, ap, subst, Option}
+use Rattle.std.proofs.Common.{◌≡◌, ℕ, ℤ, Bool, true, false, ◌||◌, ◌&&◌, cond, is_some, map, List, [], ◌∷◌, ◌++◌, append_assoc, append-nil, refl, ◌∙◌, ap, Option}
 use Rattle.std.specs.List.{zip, flat_map, join_by, filter_map}
 use Rattle.std.proofs.lemmas.Grind.{flat_map-append}
 use Rattle.std.proofs.lemmas.List.{map-append}
@@ -9,7 +9,7 @@ use Rattle.md_value.specs.Values.{PathBytes}
 use Rattle.md_source.specs.Tree.{Content}
 use Rattle.md_print.specs.Attributes.{attrs_text}
 use Rattle.md_files.specs.Answers.{Answer, IsAsked, AreAsked, Gives, outcome}
-use Rattle.md_files.specs.Findings.{Finding, asked_findings, end_of, err_line, separator, shown_text, given_attrs, attrs_of}
+use Rattle.md_files.specs.Findings.{Finding, asked_findings, err_line, separator, shown_text, given_attrs, attrs_of}
 use Rattle.md_files.specs.Findings.Finding.{named}
 use Rattle.md_files.specs.Reports.{Report, Shows, report_of, shown}
 use Rattle.md_files.specs.Additions.{no_report, noted, next_text}

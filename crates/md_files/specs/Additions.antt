@@ -1,5 +1,5 @@
 -- A report that findings are added to, one after the other.
-use Rattle.std.specs.Prelude.{◌≡◌, ℕ, ℤ, Bool, true, false, ◌&&◌, not, List, [], ◌∷◌, ◌++◌, Option}
+use Rattle.std.specs.Prelude.{◌≡◌, ℕ, ℤ, Bool, ◌&&◌, List, [], ◌∷◌, ◌++◌, Option}
 use Rattle.std.specs.List.{flat_map}
 use Rattle.md_value.specs.Values.{PathBytes}
 use Rattle.md_source.specs.Tree.{Content}

@@ -1,4 +1,4 @@
-use Rattle.std.proofs.Common.{rules, OnOk, List, sym, FitsSigned, w32}
+use Rattle.std.proofs.Common.{rules, OnOk, sym, FitsSigned, w32}
 use Rattle.std.proofs.lemmas.Int.{to_z-of_z}
 use Rattle.std.proofs.lemmas.List.Sorted.{All-permutation}
 use Rattle.md_value.specs.Values.{IsMoment}

@@ -1,11 +1,11 @@
-use Rattle.std.proofs.Common.{◌≡◌, ◌∷◌, ◌++◌, ◌||◌, [], ◌+◌, ◌∙◌, List, Bool, is_some, take, subst, sym, ap, arith, rules, FitsSigned, w32}
+use Rattle.std.proofs.Common.{◌≡◌, ◌∷◌, ◌++◌, [], ◌+◌, ◌∙◌, take, subst, sym, ap, arith, rules, FitsSigned, w32}
 use Rattle.std.proofs.lemmas.Int.{to_z-of_z}
 use Rattle.std.proofs.lemmas.List.{take_all, take_more}
 use Rattle.md_value.specs.Values.{PathBytes}
 use Rattle.md_files.specs.Answers.{IsAsked, Gives}
 use Rattle.md_files.specs.Additions.{noted}
 use Rattle.md_files.specs.Findings.Finding.{named}
-use Rattle.md_files.specs.Reports.{Report, Shows}
+use Rattle.md_files.specs.Reports.{Report}
 use Rattle.md_files.proofs.ShownFiles.{IsShowing, showing_more, shows_so}
 use Rattle.md_files.proofs.Causes.{shows_cause, shows_absent, shows_complete}
 use Rattle.md_files.proofs.showing.show.Goals as goal
