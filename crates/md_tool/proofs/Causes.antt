@@ -1,6 +1,5 @@
 -- What a status tells, for each way in which a command asks.
-use Rattle.std.proofs.Common.{◌≡◌, ◌⊎◌, inl, inr, Bool, true, false, ℕ, ℤ, ◌+◌, ◌<◌, ◌≤◌, List, length, take, refl, sym, ◌∙◌, ap, Option, Some, None, IfSome, Ok, Err, arith}
-use Rattle.std.specs.Io.KnownBytes.{IsAtEnd}
+use Rattle.std.proofs.Common.{◌≡◌, inl, inr, true, false, ℕ, ℤ, ◌+◌, ◌<◌, ◌≤◌, List, length, take, refl, sym, ◌∙◌, ap, Option, Some, None, IfSome, Ok, Err, arith}
 use Rattle.std.proofs.lemmas.List.{take_all, length-take-le}
 use Rattle.std.proofs.lemmas.Bool.Decides.{leb_tells}
 use Rattle.md_files.specs.Reports.{EndHasCause}
@@ -13,16 +12,15 @@ use Rattle.md_script.specs.declared.script.ScriptError.{ScriptError}
 use Rattle.md_script.specs.declared.script.ScriptError.TheVariants as error
 use Rattle.md_script.specs.Scripts.{verdict}
 use Rattle.md_script.proofs.Verdicts.{verdict-long, accepted_lem}
-use Rattle.md_source.specs.Causes.{Rose}
 use Rattle.md_source.specs.Tree.{Content}
 use Rattle.md_words.specs.declared.command.Tool.{Tool}
 use Rattle.md_words.specs.declared.command.Tool.TheVariants as tool
-use Rattle.md_tool.specs.Outside.{Shown, Inputs, IsRead, Fails, ClockFails, TreeFails}
+use Rattle.md_tool.specs.Outside.{Shown, Inputs, IsRead, ClockFails, TreeFails}
 use Rattle.md_tool.specs.Reports.{Report, refused, lines_by, status_of}
 use Rattle.md_tool.specs.Asking.{Answers, Lives}
 use Rattle.md_tool.specs.Asking.Answers.{refuses, unclocked, runs}
 use Rattle.md_tool.specs.Asking.Lives.{unread, read}
-use Rattle.md_tool.specs.Causes.{Tells, TellsFirst, InputFails, IsReady, IsWhole, IsLive, IsAccepted, IsRefused, HasFormOut, tells_named}
+use Rattle.md_tool.specs.Causes.{TellsFirst, InputFails, IsReady, IsWhole, IsLive, IsAccepted, IsRefused, HasFormOut, tells_named}
 use Rattle.md_tool.specs.declared.status.Status.{Status}
 use Rattle.md_tool.specs.declared.status.Status.TheVariants as status
 

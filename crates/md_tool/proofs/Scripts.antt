@@ -20,7 +20,7 @@ pub few_lines : (bytes : List ℕ) (read : List Line) → verdict bytes ≡ Ok r
 few_lines bytes read h =
     let accepted = (accepted_lem bytes read).0 h in
     let short = accepted.0 in
-    let few = few_kept numbered (enumerate_from 1 (lines bytes)) in
+    let few = few_kept (numbered (lines bytes)) (enumerate_from 1 (lines bytes)) in
     let as_many = length-enumerate_from 1 (lines bytes) in
     let same : length read ≡ length (statements bytes) = ap length accepted.2 in
     omega (arith, few, as_many, same, short.lines)

@@ -1,5 +1,5 @@
 -- What commands ask of the tree, the script and the clock, and what is printed of it.
-use Rattle.std.specs.Prelude.{◌≡◌, ℕ, ℤ, List, codes, Option, None, Some, Ok, Err}
+use Rattle.std.specs.Prelude.{◌≡◌, ℕ, ℤ, List, codes, None, Some, Ok, Err}
 use Rattle.md_files.specs.Reports as files
 use Rattle.md_files.specs.Reports.{Shows, Imports}
 use Rattle.md_files.specs.Tables.{importers_text, attributes_text}

@@ -1,5 +1,5 @@
 -- What the status that a run ends with tells of the objects of the outside.
-use Rattle.std.specs.Prelude.{◌≡◌, ◌⊎◌, ℕ, ℤ, Bool, true, false, List, Option, None, Some, IfSome, Ok, Err}
+use Rattle.std.specs.Prelude.{◌≡◌, ◌⊎◌, ℕ, ℤ, Bool, true, false, List, None, Some, IfSome, Ok, Err}
 use Rattle.std.specs.Io.KnownBytes.{IsAtEnd}
 use Rattle.md_files.specs.Reports.{tells_files, tells_all}
 use Rattle.md_live.specs.TimeForms.{out_of_range}
@@ -7,7 +7,6 @@ use Rattle.md_script.specs.declared.script.Line.{Line}
 use Rattle.md_script.specs.declared.script.ScriptError.{ScriptError}
 use Rattle.md_script.specs.Scripts.{verdict}
 use Rattle.md_source.specs.Tree.{Content}
-use Rattle.md_words.specs.declared.command.Command.{Command}
 use Rattle.md_words.specs.declared.command.Tool.{Tool}
 use Rattle.md_words.specs.declared.command.Tool.TheVariants as tool
 use Rattle.md_tool.specs.Outside.{Inputs, Outputs, TreeFails, Fails, ClockFails}

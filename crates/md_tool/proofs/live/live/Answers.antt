@@ -1,6 +1,5 @@
 use Rattle.std.proofs.Common.{refl, rules}
-use Rattle.md_tool.specs.Outside.{Files, Inputs, IsRead, inputs}
-use Rattle.md_tool.specs.Asking.{Lives}
+use Rattle.md_tool.specs.Outside.{Files, IsRead, inputs}
 use Rattle.md_tool.proofs.Causes.{live_tells}
 use Rattle.md_tool.proofs.Ending.{ok_then, lives_unread, lives_read}
 use Rattle.md_tool.proofs.live.live.Goals as goal

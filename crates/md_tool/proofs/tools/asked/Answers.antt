@@ -1,9 +1,6 @@
-use Rattle.std.proofs.Common.{◌≡◌, sym, subst, rules, FitsSigned, w32}
+use Rattle.std.proofs.Common.{rules, FitsSigned, w32}
 use Rattle.std.proofs.lemmas.Int.{to_z-of_z}
-use Rattle.md_words.specs.declared.command.Tool.{Tool}
-use Rattle.md_tool.specs.Outside.{Files, Bytes, Shown, Inputs, inputs}
-use Rattle.md_tool.specs.Asking.{ToolAsks}
-use Rattle.md_tool.specs.Causes.{TellsFirst}
+use Rattle.md_tool.specs.Outside.{Files, Bytes, Shown}
 use Rattle.md_tool.proofs.Ending.{ok_then, live_asks, live_tells_first}
 use Rattle.md_tool.proofs.tools.asked.Goals as goal
 

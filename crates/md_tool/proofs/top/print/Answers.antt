@@ -1,4 +1,4 @@
-use Rattle.std.proofs.Common.{◌≡◌, sym, ◌∙◌, ap, subst}
+use Rattle.std.proofs.Common.{sym, ◌∙◌, ap, subst}
 use Rattle.md_tool.specs.Outside.{Outputs, outputs}
 use Rattle.md_tool.specs.Reports.{Report}
 use Rattle.md_tool.specs.Asking.{Prints}
