@@ -165,6 +165,28 @@ fn gathering_goes_on_with_the_base(rt: HostRuntime) -> Result<(), Fail> {
 }
 
 #[test]
+fn a_query_tells_what_it_gave(rt: HostRuntime) -> Result<(), Fail> {
+    let alloc = rt.alloc();
+    let mut events = Vec::new(alloc);
+    events.push(draw(alloc, "a.txt")?)?;
+    events.push(put(alloc, 1, "a.txt")?)?;
+    events.push(draw(alloc, "b.txt")?)?;
+    events.push(put(alloc, 2, "b.txt")?)?;
+    events.push(create(alloc, Some(1))?)?;
+    events.push(gather())?;
+    let (hub, _) = run(alloc, Limits::STANDARD, &events)?;
+    let Some(held) = hub.held(alloc, 0, 1)? else {
+        return Err(Fail::new("no query"));
+    };
+    assert_eq!(rt;
+        (held.version, held.rows.len(), held.order.keys().len()),
+        (2, 1, 0)
+    );
+    assert!(rt; hub.held(alloc, 0, 2)?.is_none());
+    Ok(())
+}
+
+#[test]
 fn updates_come_in_batches(rt: HostRuntime) -> Result<(), Fail> {
     let alloc = rt.alloc();
     let batch = Batch {

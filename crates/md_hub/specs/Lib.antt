@@ -6,3 +6,4 @@ pub mod Stepping
 pub mod Sound
 pub mod Edits
 pub mod Told
+pub mod Given

@@ -3,14 +3,16 @@ ghost use Rattle.std.specs.Prelude.{◌≡◌, IfOk, OnOk, OnErr, true, false};
 ghost use Rattle.md_machine.specs.Replies.{delivers, takes_memory};
 ghost use Rattle.md_machine.specs.States.{opening, ticket_at, query_at};
 ghost use Rattle.md_machine.specs.Steps.{step, asked};
+ghost use Rattle.std.specs.Option.{option_map};
 ghost use Rattle.md_query.specs.Asked.{answered};
+ghost use Rattle.md_hub.specs.Given.{given_by};
 ghost use Rattle.md_hub.specs.Verdicts.{verdict_of};
 ghost use Rattle.md_hub.specs.Stepping.{IsStep};
 
 use crate::desk::{self, LastCommit, OpenTicket};
 use crate::queries::{self, Call};
 use crate::query::LiveQuery;
-use crate::edits;
+use crate::{Held, edits};
 use md_machine::{Event, Reply, Spec};
 use md_query::{Ask, copy_rows};
 use md_value::{Copied, Path};
@@ -338,6 +340,16 @@ impl Hub {
         match self.answer(alloc, event) {
             Ok(reply) => reply,
             Err(_) => Reply::Memory,
+        }
+    }
+
+    /// What the live query of this client and number has given, if there is one. Fails only where memory runs out.
+    pub fn held(&self, alloc: Global, client: u8, number: u32) -> Result<Option<Held>, AllocError>
+        ensures { IfOk result (λ held. held ≡ option_map given_by (query_at self.now.queries client number)) }
+    {
+        match queries::place_of(&self.queries, client, number) {
+            None => Ok(None),
+            Some(i) => Ok(Some(self.queries[i].held(alloc)?)),
         }
     }
 }

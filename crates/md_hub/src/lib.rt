@@ -3,10 +3,12 @@
 
 mod desk;
 mod edits;
+mod held;
 mod hub;
 mod queries;
 mod query;
 mod runs;
 
+pub use held::Held;
 pub use hub::Hub;
 pub use runs::run;

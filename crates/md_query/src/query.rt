@@ -1,6 +1,7 @@
 // One query: what it answers when it is asked, and what that makes of it.
 ghost use Rattle.std.specs.Prelude.{◌≡◌, ℕ, ◌==◌, ◌≤◌, ◌<◌, ◌+◌, ◌^◌, IfOk, OnErr, Bool, true, false, take, drop, map, length};
 ghost use Rattle.md_machine.specs.Answers.{answer, shown_answer, diff, notice_of};
+ghost use Rattle.md_machine.specs.Laws.{hits_given};
 ghost use Rattle.md_machine.specs.Replies.{takes_memory};
 ghost use Rattle.md_machine.specs.States.{Gathering, Finished};
 ghost use Rattle.md_machine.specs.Steps.{disable, gather, enable, poll, last_part, next_part, most_hits};
@@ -15,7 +16,7 @@ use crate::tables;
 use md_machine::{Reply, Spec};
 use md_match::Filter;
 use md_value::Items;
-use md_world::{Limits, Part, Row, Rows};
+use md_world::{Limits, Order, Part, Row, Rows};
 use std::alloc::{AllocError, Global};
 use std::marker::Model;
 
@@ -108,12 +109,38 @@ impl Query {
         }
     }
 
+    /// The order that its client shows the hits in. Takes no memory.
+    pub fn order(&self) -> &Order
+        ensures { result.now ≡ self.now.spec.order }
+    {
+        &self.spec.order
+    }
+
     // The rows of a table that the query asks for.
     #[tactic(auto, using(crate::proofs::Hits::passes_answer))]
     fn hits<'a>(&self, alloc: Global, table: &'a [Row]) -> Result<Vec<&'a Row>, AllocError>
         ensures { IfOk result (λ hits. rows_of hits.items ≡ answer self.now.spec table.now) }
     {
         tables::passing(alloc, &self.filter, table)
+    }
+
+    // Those of its hits that are given, as they are shown.
+    #[tactic(auto, using(crate::proofs::Hits::shown_first))]
+    fn given(&self, alloc: Global, hits: &[&Row]) -> Result<Vec<Row>, AllocError>
+        ensures { IfOk result (λ rows. rows.items ≡ hits_given self.now.phase (map shown (rows_of hits.now))) }
+    {
+        match self.phase {
+            Progressed::Gathering(given) => tables::shown(alloc, tables::hits_before(hits, given)),
+            Progressed::Finished => tables::shown(alloc, hits),
+        }
+    }
+
+    /// What it has given: the hits so far while it gathers, and then all. Fails only where memory runs out.
+    pub fn held(&self, alloc: Global) -> Result<Rows, AllocError>
+        ensures { IfOk result (λ rows. rows ≡ hits_given self.now.phase (shown_answer self.now.spec self.now.rows)) }
+    {
+        let hits = self.hits(alloc, self.rows.as_slice())?;
+        Ok(Items::from_vec(self.given(alloc, &hits)?))
     }
 
     fn last_part(&self, alloc: Global, left: &[&Row], now_ms: u64) -> Result<Answer, AllocError>

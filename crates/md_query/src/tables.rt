@@ -1,5 +1,5 @@
 // Rows and tables: a query's hits on a table, and how two lists of hits differ.
-ghost use Rattle.std.specs.Prelude.{◌≡◌, ◌+◌, ◌≤◌, ◌<◌, ◌^◌, not, IfOk, map, filter, drop, length};
+ghost use Rattle.std.specs.Prelude.{◌≡◌, ◌+◌, ◌≤◌, ◌<◌, ◌^◌, not, IfOk, map, filter, take, drop, length};
 ghost use Rattle.std.specs.Option.{option_map};
 ghost use Rattle.md_world.specs.Tables.{at, has_path, shown};
 ghost use Rattle.md_world.specs.Differences.{difference, items_of, was_other};
@@ -141,6 +141,14 @@ pub fn count_items(old: &[&Row], new: &[&Row]) -> usize
     ensures { result ≡ items_of (difference (rows_of old.now) (rows_of new.now)) }
 {
     count_new(old, new) + count_changed(old, new) + count_new(new, old)
+}
+
+/// The first `given` hits, or all where there are fewer.
+#[tactic(auto, using(crate::proofs::Hits::hits_first))]
+pub fn hits_before<'h, 'a>(hits: &'h [&'a Row], given: usize) -> &'h [&'a Row]
+    ensures { rows_of result.now ≡ take given (rows_of hits.now) }
+{
+    hits.split_at(given.min(hits.len())).0
 }
 
 /// The hits after the first `given`.

@@ -170,3 +170,20 @@ fn tells_how_it_stands(rt: HostRuntime) -> Result<(), Fail> {
     );
     Ok(())
 }
+
+#[test]
+fn holds_what_is_given(rt: HostRuntime) -> Result<(), Fail> {
+    let alloc = rt.alloc();
+    let spec = titled(alloc, Batch::NONE)?;
+    let filter = Filter::of(alloc, &spec.expr, spec.now, spec.offset, &spec.scope)?;
+    let base = vec![in alloc; row(alloc, "a.txt", "one")?, row(alloc, "b.txt", "two")?]?;
+    let mut query = Query::start(spec, filter, base, 3);
+    assert!(rt; query.order().keys().is_empty());
+    let begun = query.held(alloc)?.len();
+    query.settle(Effect::Give(1));
+    let gathering = query.held(alloc)?.len();
+    query.settle(Effect::Finish(100));
+    let finished = query.held(alloc)?.len();
+    assert_eq!(rt; (begun, gathering, finished), (0, 1, 2));
+    Ok(())
+}

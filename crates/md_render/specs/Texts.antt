@@ -1,11 +1,12 @@
 -- The text of a journal.
-use Rattle.std.specs.Prelude.{ℕ, ◌+◌, Bool, true, false, List, [], ◌∷◌, ◌++◌, length, codes}
+use Rattle.std.specs.Prelude.{ℕ, ◌+◌, Bool, true, false, List, [], ◌∷◌, ◌++◌, length, codes, Option, None, Some}
 use Rattle.std.specs.Fmt.{decimal}
 use Rattle.std.specs.List.{flat_map}
 use Rattle.md_value.specs.Values.{PathBytes}
 use Rattle.md_world.specs.declared.Row.{Row}
 use Rattle.md_world.specs.declared.Notice.{Notice}
 use Rattle.md_print.specs.Paths.{escaped}
+use Rattle.md_notice.specs.Following.{Followed}
 use Rattle.md_machine.specs.declared.Event.{Event}
 use Rattle.md_machine.specs.declared.Event.TheVariants as event
 use Rattle.md_machine.specs.declared.Reply.{Reply}
@@ -137,6 +138,11 @@ held_text client number version rows = query_line client number (holding_text ve
 -- what a client holds where it has no live query of the number
 abbrev pub unheld_text : ℕ → ℕ → List ℕ
 unheld_text client number = codes "c" ++ decimal client ++ codes " q" ++ decimal number ++ codes " holds nothing\n"
+
+-- what the follower of a query holds; without one, that there is no live query of the number
+abbrev pub follower_text : ℕ → ℕ → Option Followed → List ℕ
+follower_text client number None = unheld_text client number
+follower_text client number (Some followed) = held_text client number followed.version followed.rows
 
 -- whether a reply answers a draw
 abbrev pub answers_draw : Reply → Bool

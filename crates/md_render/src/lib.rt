@@ -8,7 +8,7 @@ mod lines;
 mod replies;
 
 pub use entries::{entry_text, push_entry};
-pub use held::{push_held, push_unheld};
+pub use held::held_text;
 pub use md_print::escaped;
 
 #[cfg(test)]

@@ -1,8 +1,9 @@
-use crate::{entry_text, escaped, push_entry, push_held, push_unheld};
+use crate::{entry_text, escaped, held_text, push_entry};
 use md_expr_tree::{Expr, Literal, Op, Subject, Test};
 use md_machine::{Batch, Event, Reply, Spec};
+use md_notice::Follower;
 use md_value::{Attrs, Items, Path};
-use md_world::{Change, Notice, Part, Row, Rows};
+use md_world::{Change, Notice, Order, Part, Row, Rows};
 use std::alloc::Global;
 use std::test::Fail;
 
@@ -28,12 +29,6 @@ fn notice(alloc: Global) -> Result<Notice, Fail> {
 }
 
 fn create(alloc: Global) -> Event {
-    let batch = Batch {
-        first: None,
-        progress: None,
-        update: None,
-        ms: None,
-    };
     let expr = Expr::Test(Test::Compare {
         subject: Subject::Some,
         op: Op::Equal,
@@ -44,7 +39,8 @@ fn create(alloc: Global) -> Event {
         now: 0,
         offset: 0,
         scope: Path::root(alloc),
-        batch,
+        order: Order::by_path(alloc),
+        batch: Batch::NONE,
     };
     Event::Create {
         client: 7,
@@ -191,12 +187,18 @@ fn writes_paths(rt: HostRuntime) -> Result<(), Fail> {
 #[test]
 fn writes_held(rt: HostRuntime) -> Result<(), Fail> {
     let alloc = rt.alloc();
-    let rows = two_rows(alloc)?;
-    let mut text = String::new(alloc);
-    push_held(&mut text, 1, 2, 3, rows.as_slice())?;
-    push_unheld(&mut text, 4, 5)?;
-    let want = "c1 q2 holds 2 3\n  a/é.txt\n  b\\tc\\\\d\\r\\n.csv\nc4 q5 holds nothing\n";
-    assert_eq!(rt; text.as_str(), want);
+    let part = Part {
+        hits: two_rows(alloc)?,
+        last: true,
+    };
+    let mut follower = Follower::new(alloc, Order::by_path(alloc), 3);
+    follower.take_part(&part)?;
+    let want = "c1 q2 holds 2 3\n  a/é.txt\n  b\\tc\\\\d\\r\\n.csv\n";
+    assert_eq!(rt; held_text(alloc, 1, 2, Some(&follower))?.as_str(), want);
+    assert_eq!(rt;
+        held_text(alloc, 4, 5, None)?.as_str(),
+        "c4 q5 holds nothing\n"
+    );
     let path = Path::read(alloc, "\\t\t")?;
     assert_eq!(rt; escaped(alloc, &path)?.as_str(), "\\\\t\\t");
     Ok(())
