@@ -129,6 +129,7 @@ fn bad_lines_and_words_are_refused(rt: HostRuntime) -> Result<(), Fail> {
         ("put a.txt x\nc0 pol", 2),
         ("c0 vacuum\n", 1),
         ("put a.txt x\n\nremove\n", 3),
+        ("\n\nc0 query 1 first=0 where a == 1\n", 3),
     ];
     for (script, line) in rows {
         let ran = live(alloc, script.as_bytes())?;
@@ -189,9 +190,11 @@ fn a_client_has_64_queries(rt: HostRuntime) -> Result<(), Fail> {
         writeln!(journal, "{place} c0 q{number} created 0")?;
     }
     script.push_str(
-        "c0 query 64 where kMDItemFSName == \"a.txt\"\nc1 query 64 where kMDItemFSName == \"a.txt\"\n",
+        "c0 query 64 where kMDItemFSName == \"a.txt\"\nc1 query 64 where kMDItemFSName == \"a.txt\"\nc0 stop 0\nc0 query 64 where a == 1\nc0 query 64 where a == 1\n",
     )?;
-    journal.push_str("65 c0 q64 too-many\n66 c1 q64 created 0\n")?;
+    journal.push_str(
+        "65 c0 q64 too-many\n66 c1 q64 created 0\n67 c0 q0 stopped\n68 c0 q64 created 0\n69 c0 q64 taken\n",
+    )?;
     let ran = live(alloc, script.as_bytes())?;
     assert_eq!(rt; ran.out.taken(), journal.as_bytes());
     Ok(())

@@ -31,7 +31,7 @@ fn main(rt: HostRuntime) -> ExitCode {
     let mut script = Reading::new(rt.stdin());
     let mut out = Writing::new(rt.stdout());
     let mut err = Writing::new(rt.stderr());
-    let mut tree = Folder::new(rt.clone());
+    let mut tree = Folder::new(rt);
     let mut clock = MachineClock::new(rt);
     let outcome = run(
         alloc,
