@@ -5,11 +5,12 @@ Beside it: `cat` of the same files into nothing, and Python's reading of them (U
 of each, the greatest memory of `mdimport`, and that on a folder of 1,000 of the files, which should differ by little
 more than the text that is printed. The last line is `ok`, or what is over 4 times `cat` and Python.
 """
-import csv, io, json, os, pathlib, random, subprocess, sys, tempfile, time
+import csv, fcntl, io, json, os, pathlib, random, select, subprocess, sys, tempfile, time
 
 TOP = pathlib.Path(__file__).resolve().parents[2]
 WORDS = "red blue tax plan note draft final budget rent total".split()
 SIZE = 2048
+F_SETPIPE_SZ = 1031
 
 
 def text(draw, size):
@@ -51,13 +52,22 @@ def timed(words, folder, out):
 
 
 def peak(program, folder):
-    """The greatest memory of `mdimport` over the folder, in kilobytes, and the bytes that it prints."""
-    run = subprocess.Popen([program, "mdimport", "."], cwd=folder, stdout=subprocess.PIPE)
-    printed = len(run.stdout.read())
-    _, status, usage = os.wait4(run.pid, 0)
-    if status:
-        sys.exit(f"mdimport ended with {status}")
-    return usage.ru_maxrss, printed
+    """The greatest memory of `mdimport` over the folder, in kilobytes, and the bytes that it prints.
+
+    All is printed at the end, through a pipe that is full after the first page: what the system says then is told.
+    """
+    front, back = os.pipe()
+    fcntl.fcntl(back, F_SETPIPE_SZ, 4096)
+    run = subprocess.Popen([program, "mdimport", "."], cwd=folder, stdout=back)
+    os.close(back)
+    select.select([front], [], [])
+    status = pathlib.Path(f"/proc/{run.pid}/status").read_text()
+    most = int(next(line for line in status.splitlines() if line.startswith("VmHWM")).split()[1])
+    with os.fdopen(front, "rb") as pipe:
+        printed = len(pipe.read())
+    if run.wait():
+        sys.exit(f"mdimport ended with {run.returncode}")
+    return most, printed
 
 
 def parse(folder):
