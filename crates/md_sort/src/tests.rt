@@ -1,3 +1,6 @@
+ghost use Rattle.std.specs.Prelude.{IfOk, All};
+ghost use Rattle.md_value.specs.Values.{IsInRange};
+
 use crate::Sorted;
 use md_value::{Attrs, Copied, Name, Path, Text, Value};
 use md_world::{Order, Row, SortKey};
@@ -23,21 +26,29 @@ fn order_of(alloc: Global, words: &str) -> Result<Order, Fail> {
     }
 }
 
-// The value that a word stands for: a number, `yes` or `no`, a moment after `@`, else a text.
-fn value_of(alloc: Global, word: &str) -> Result<Value, Fail> {
-    if word == "yes" || word == "no" {
-        return Ok(Value::Flag(word == "yes"));
+// The value that a word stands for: a flag, the moment 7, a small number, else a text.
+fn value_of(alloc: Global, word: &str) -> Result<Value, Fail>
+    ensures { IfOk result (λ value. IsInRange value) }
+{
+    match word {
+        "yes" => Ok(Value::Flag(true)),
+        "no" => Ok(Value::Flag(false)),
+        "@7" => Ok(Value::Moment(7)),
+        _ => match word.parse::<i32>() {
+            Ok(number) => Ok(Value::Number(i64::from(number))),
+            Err(_) => Ok(Value::Text(Text::of(alloc, word)?)),
+        },
     }
-    if let Some(moment) = word.strip_prefix('@') {
-        return match moment.parse::<u32>() {
-            Ok(moment) => Ok(Value::Moment(i64::from(moment))),
-            Err(_) => Err(Fail::new("no moment")),
-        };
+}
+
+fn values_of(alloc: Global, words: &str) -> Result<Vec<Value>, Fail>
+    ensures { IfOk result (λ values. All IsInRange values.items) }
+{
+    let mut values = Vec::new(alloc);
+    for word in words.split_ascii_whitespace() {
+        values.push(value_of(alloc, word)?)?;
     }
-    match word.parse::<i32>() {
-        Ok(number) => Ok(Value::Number(i64::from(number))),
-        Err(_) => Ok(Value::Text(Text::of(alloc, word)?)),
-    }
+    Ok(values)
 }
 
 // The row of a path, and of attributes with their values.
@@ -47,10 +58,7 @@ fn row_of(alloc: Global, path: &str, attrs: &[(&str, &str)]) -> Result<Row, Fail
         attrs: Attrs::new(alloc),
     };
     for (name, words) in attrs {
-        let mut values = Vec::new(alloc);
-        for word in words.split_ascii_whitespace() {
-            values.push(value_of(alloc, word)?)?;
-        }
+        let values = values_of(alloc, words)?;
         row.attrs.put(Name::read(alloc, name)?, values)?;
     }
     Ok(row)
@@ -139,20 +147,24 @@ fn sorts_by_each_order(rt: HostRuntime) -> Result<(), Fail> {
 fn sets_and_takes_out(rt: HostRuntime) -> Result<(), Fail> {
     let alloc = rt.alloc();
     let mut sorted = Sorted::new(alloc, order_of(alloc, "x")?);
-    assert!(rt; sorted.is_empty());
-    sorted.reserve(3)?;
-    sorted.insert(row_of(alloc, "a", &[("x", "3")])?);
-    sorted.insert(row_of(alloc, "b", &[("x", "2")])?);
-    sorted.insert(row_of(alloc, "c", &[("x", "1")])?);
-    assert_eq!(rt; paths_in(alloc, &sorted)?.as_str(), "c b a");
-    // A row of the same path stands where its new values belong.
-    sorted.insert(row_of(alloc, "c", &[("x", "4")])?);
-    assert_eq!(rt; paths_in(alloc, &sorted)?.as_str(), "b a c");
+    let mut told = String::new(alloc);
+    for (path, x) in [("a", "3"), ("b", "2"), ("c", "1"), ("c", "4")] {
+        insert(&mut sorted, row_of(alloc, path, &[("x", x)])?)?;
+        let paths = paths_in(alloc, &sorted)?;
+        writeln!(told, "{paths}")?;
+    }
     let b = Path::read(alloc, "b")?;
-    assert!(rt; sorted.remove(&b) && !sorted.remove(&b));
-    assert!(rt; sorted.place_of(&b).is_none() && sorted.at(2).is_none());
-    assert_eq!(rt; paths_in(alloc, &sorted)?.as_str(), "a c");
-    assert_eq!(rt; sorted.order().keys().len(), 1);
-    assert_eq!(rt; sorted.len(), 2);
+    for _ in 0..2 {
+        let was_there = sorted.remove(&b);
+        let paths = paths_in(alloc, &sorted)?;
+        let place = sorted.place_of(&b);
+        let len = sorted.len();
+        writeln!(told, "{was_there} {paths} {place:?} {len}")?;
+    }
+    // A row of the same path stands where its new values belong.
+    assert_eq!(rt;
+        told.as_str(),
+        "a\nb a\nc b a\nb a c\ntrue a c None 2\nfalse a c None 2\n"
+    );
     Ok(())
 }
