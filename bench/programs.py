@@ -3,6 +3,7 @@
 import pathlib
 import shutil
 import subprocess
+import tempfile
 
 ROOT = pathlib.Path(__file__).resolve().parents[1]
 
@@ -40,3 +41,24 @@ def build(top, used, program):
     folder = write(top, used, program)
     subprocess.run(["rt", "run"], cwd=folder, check=True, stdout=subprocess.DEVNULL)
     return folder / "out" / "speed"
+
+
+def run(top, used, program):
+    """Writes the program over these crates, builds it and runs it."""
+    subprocess.run(["rt", "run"], cwd=write(top, used, program), check=True)
+
+
+def run_plain(top, source):
+    """Builds a plain Rust program, the one to compare with, and runs it."""
+    file = top / "plain.rs"
+    file.write_text(source)
+    subprocess.run(["rustc", "-O", "-o", top / "plain", file], check=True)
+    subprocess.run([top / "plain"], check=True)
+
+
+def compare(used, program, plain):
+    """Runs a plain Rust program and then the program over these crates, in a folder of their own."""
+    with tempfile.TemporaryDirectory() as folder:
+        top = pathlib.Path(folder)
+        run_plain(top, plain)
+        run(top, used, program)

@@ -6,9 +6,7 @@ Prints a line for each measure, three times: how many microseconds it took to se
 up by their paths, one by one. Needs `rt` and `rustc` in the path, and some minutes."""
 
 import pathlib
-import subprocess
 import sys
-import tempfile
 
 sys.path.insert(0, str(pathlib.Path(__file__).resolve().parents[1]))
 import programs
@@ -163,23 +161,6 @@ fn main() {
 }
 """
 
-def run_sorted(top):
-    subprocess.run(["rt", "run"], cwd=programs.write(top, USED, PROGRAM), check=True)
-
-
-def run_plain(top):
-    source = top / "plain.rs"
-    source.write_text(PLAIN)
-    subprocess.run(["rustc", "-O", "-o", top / "plain", source], check=True)
-    subprocess.run([top / "plain"], check=True)
-
-
-def main():
-    with tempfile.TemporaryDirectory() as folder:
-        top = pathlib.Path(folder)
-        run_plain(top)
-        run_sorted(top)
-
 
 if __name__ == "__main__":
-    main()
+    programs.compare(USED, PROGRAM, PLAIN)
