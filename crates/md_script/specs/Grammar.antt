@@ -18,7 +18,11 @@ put_of rest = option_and_then (λ path. option_map (λ text. what.Put path text)
 unfoldable pub remove_of : List ℕ → Option What
 remove_of rest = option_map (λ path. what.Remove path) (path_of rest)
 
--- `cC gather N`, `cC poll N`, `cC disable N`, `cC enable N` or `cC stop N`
+-- `import PATH`
+unfoldable pub import_of : List ℕ → Option What
+import_of rest = option_map (λ path. what.Import path) (path_of rest)
+
+-- `cC gather N`, `cC poll N`, `cC disable N`, `cC enable N`, `cC stop N` or `cC show N`
 unfoldable pub event_of : ℕ → List ℕ → ℕ → Option What
 event_of client verb number =
     if bytes_eq verb (codes "gather") then Some (what.Gather client number)
@@ -26,7 +30,8 @@ event_of client verb number =
     else (if bytes_eq verb (codes "disable") then Some (what.Disable client number)
     else (if bytes_eq verb (codes "enable") then Some (what.Enable client number)
     else (if bytes_eq verb (codes "stop") then Some (what.Stop client number)
-    else None))))
+    else (if bytes_eq verb (codes "show") then Some (what.Show client number)
+    else None)))))
 
 -- the line of a client, from its second word on
 unfoldable pub asked_by : ℕ → List ℕ → List ℕ → Option What
@@ -37,8 +42,9 @@ asked_by client verb rest =
 unfoldable pub command_of : List ℕ → List ℕ → Option What
 command_of word rest =
     if bytes_eq word (codes "put") then put_of rest
+    else (if bytes_eq word (codes "import") then import_of rest
     else (if bytes_eq word (codes "remove") then remove_of rest
-    else option_and_then (λ client. asked_by client (first_word rest) (after_word rest)) (client_of word))
+    else option_and_then (λ client. asked_by client (first_word rest) (after_word rest)) (client_of word)))
 
 -- empty, or begins with `#`
 unfoldable pub says_nothing : List ℕ → Bool

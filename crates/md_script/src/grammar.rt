@@ -1,6 +1,6 @@
 // What a line says.
 ghost use Rattle.std.specs.Prelude.{◌≡◌, IfOk};
-ghost use Rattle.md_script.specs.Grammar.{put_of, remove_of, event_of, asked_by, command_of, says_nothing, moment_of, said_by, said};
+ghost use Rattle.md_script.specs.Grammar.{put_of, import_of, remove_of, event_of, asked_by, command_of, says_nothing, moment_of, said_by, said};
 
 use crate::What;
 use crate::lines::split_word;
@@ -29,6 +29,16 @@ fn put_of(alloc: Global, rest: &[u8]) -> Result<Option<What>, AllocError>
     };
     match content_of(alloc, rest)? {
         Some(text) => Ok(Some(What::Put { path, text })),
+        None => Ok(None),
+    }
+}
+
+#[tactic(auto, unfolding(crate::specs::Grammar::import_of))]
+fn import_of(alloc: Global, rest: &[u8]) -> Result<Option<What>, AllocError>
+    ensures { IfOk result (λ what. what ≡ import_of rest.now) }
+{
+    match path_of(alloc, rest)? {
+        Some(path) => Ok(Some(What::Import { path })),
         None => Ok(None),
     }
 }
@@ -62,6 +72,9 @@ fn event_of(client: u8, verb: &[u8], number: u32) -> Option<What>
     if verb == b"stop".as_slice() {
         return Some(What::Stop { client, number });
     }
+    if verb == b"show".as_slice() {
+        return Some(What::Show { client, number });
+    }
     None
 }
 
@@ -84,6 +97,9 @@ fn command_of(alloc: Global, word: &[u8], rest: &[u8]) -> Result<Option<What>, A
 {
     if word == b"put".as_slice() {
         return put_of(alloc, rest);
+    }
+    if word == b"import".as_slice() {
+        return import_of(alloc, rest);
     }
     if word == b"remove".as_slice() {
         return remove_of(alloc, rest);

@@ -18,7 +18,7 @@ pub enum What {
         path: Path,
         text: Content,
     },
-    /// `import PATH`: a job whose file is read from the tree; no reader gives it yet.
+    /// `import PATH`: a job whose file is read from the tree.
     Import {
         path: Path,
     },
@@ -63,7 +63,7 @@ pub enum What {
         client: u8,
         number: u32,
     },
-    /// `cC show N`: prints what the client holds, and is no event; no reader gives it yet.
+    /// `cC show N`: prints what the client holds, and is no event.
     Show {
         client: u8,
         number: u32,

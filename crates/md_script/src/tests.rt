@@ -110,7 +110,7 @@ fn numbers_lines_and_moments(rt: HostRuntime) -> Result<(), Fail> {
     Ok(())
 }
 
-const FILES: [&[u8]; 15] = [
+const FILES: [&[u8]; 16] = [
     b"",
     b"put a.txt",
     b"put a.txt ",
@@ -126,10 +126,11 @@ const FILES: [&[u8]; 15] = [
     b"remove a\\\\b",
     b"at 5\nremove a\nput b",
     b"at 1\n\nat 2",
+    b"at 3\nimport ./docs//a\\sb.json",
 ];
 
 const SAID_OF_FILES: &str =
-    "1 at 0: put [a.txt] []\n1 at 0: put [a.txt] []\n1 at 0: put [b/A.csv] [ two  words ]\n1 at 0: put [plain] []\n1 at 0: put [a.json] [{\"kMDItemStarRating\": 4.5}]\n1 at 0: put [a b\t\n\r\\c] [x\ny\t\r\\ ]\n1 at 0: put [é.pdf] [é]\n1 at 0: put [.hidden/a] [#]\n1 at 0: put [a b.csv] []\n1 at 0: put [docs/a.txt] []\n1 at 0: remove [a.csv]\n1 at 0: remove [a\\b]\n2 at 5: remove [a]\n3 at 5: put [b] []\n";
+    "1 at 0: put [a.txt] []\n1 at 0: put [a.txt] []\n1 at 0: put [b/A.csv] [ two  words ]\n1 at 0: put [plain] []\n1 at 0: put [a.json] [{\"kMDItemStarRating\": 4.5}]\n1 at 0: put [a b\t\n\r\\c] [x\ny\t\r\\ ]\n1 at 0: put [é.pdf] [é]\n1 at 0: put [.hidden/a] [#]\n1 at 0: put [a b.csv] []\n1 at 0: put [docs/a.txt] []\n1 at 0: remove [a.csv]\n1 at 0: remove [a\\b]\n2 at 5: remove [a]\n3 at 5: put [b] []\n2 at 3: import [docs/a b.json]\n";
 
 #[test]
 fn reads_jobs(rt: HostRuntime) -> Result<(), Fail> {
@@ -137,13 +138,14 @@ fn reads_jobs(rt: HostRuntime) -> Result<(), Fail> {
     Ok(())
 }
 
-const EVENTS: [&[u8]; 8] = [
+const EVENTS: [&[u8]; 9] = [
     b"c255 gather 4294967295",
     b"c00 poll 007",
     b"c0 disable 0",
     b"c1 enable 1",
     b"c2 stop 2",
     b"c3 stop 3",
+    b"c4 show 4",
     b"c0000256 poll 1",
     b"c0 vacuum",
 ];
@@ -151,7 +153,7 @@ const EVENTS: [&[u8]; 8] = [
 #[test]
 fn reads_events(rt: HostRuntime) -> Result<(), Fail> {
     let said =
-        "1 at 0: c255 gather 4294967295\n1 at 0: c0 poll 7\n1 at 0: c0 disable 0\n1 at 0: c1 enable 1\n1 at 0: c2 stop 2\n1 at 0: c3 stop 3\nbad 1\nbad 1\n";
+        "1 at 0: c255 gather 4294967295\n1 at 0: c0 poll 7\n1 at 0: c0 disable 0\n1 at 0: c1 enable 1\n1 at 0: c2 stop 2\n1 at 0: c3 stop 3\n1 at 0: c4 show 4\nbad 1\nbad 1\n";
     assert_eq!(rt; all_shown(rt.alloc(), &EVENTS)?.as_str(), said);
     Ok(())
 }
@@ -200,7 +202,7 @@ fn first_accepted<'a>(alloc: Global, lines: &[&'a [u8]]) -> Result<Option<&'a [u
     Ok(None)
 }
 
-const BAD_LINES: [&[u8]; 36] = [
+const BAD_LINES: [&[u8]; 38] = [
     b"put",
     b"put  a.txt x",
     b"put ../a x",
@@ -212,8 +214,10 @@ const BAD_LINES: [&[u8]; 36] = [
     b"put a.txt \\",
     b"put a.txt {\xff",
     b"#\xff",
-    b"import a.txt",
-    b"c0 show 1",
+    b"import",
+    b"import .",
+    b"import a b",
+    b"c0 show",
     b"remove .",
     b"remove a ",
     b" remove a",
