@@ -1,5 +1,5 @@
 -- What the words of the program say.
-use Rattle.std.specs.Prelude.{ℕ, Bool, true, false, if◌then◌else◌, List, [], ◌∷◌, codes, bytes_eq, Option, Some, None, unwrap_or, ℤ, pos}
+use Rattle.std.specs.Prelude.{ℕ, nat_lt, ◌&&◌, Bool, true, false, if◌then◌else◌, List, [], ◌∷◌, codes, bytes_eq, Option, Some, None, unwrap_or, ℤ, pos}
 use Rattle.std.specs.Option.{option_map, option_and_then}
 use Rattle.md_words.specs.declared.command.Command.{Command}
 use Rattle.md_words.specs.declared.command.Tool.{Tool}
@@ -9,11 +9,10 @@ use Rattle.md_words.specs.Words.{begins_with_dash, files_of, files_below_root}
 use Rattle.md_words.specs.Offsets.{offset_of}
 use Rattle.md_words.specs.Options.{options_of}
 
--- whether the words can ask for a tool
+-- whether the words can ask for a tool: `gen` makes 1 to 10,000 files
 abbrev pub is_offered : Tool → Bool
-is_offered (tool.Find zero count scope name mode text) = false
 is_offered (tool.Live (Some workers)) = false
-is_offered (tool.Gen start count) = false
+is_offered (tool.Gen start count) = nat_lt 0 count && nat_lt count 10001
 is_offered _ = true
 
 -- the tool, where no word follows
