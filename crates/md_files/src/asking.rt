@@ -40,7 +40,14 @@ fn read_front<T: Tree>(alloc: Global, tree: &mut T, path: &Path) -> Result<Vec<u
     }
 }
 
-fn imported(alloc: Global, entry: &Entry, bytes: &[u8], offset: i32) -> Result<Asked, AllocError>
+/// What a file with this entry and these first bytes gives. A date alone is the first second of that day at `offset`, in
+/// minutes by which local time is ahead of UTC. Fails only where memory runs out.
+pub fn imported(
+    alloc: Global,
+    entry: &Entry,
+    bytes: &[u8],
+    offset: i32,
+) -> Result<Asked, AllocError>
     requires { IsMoment entry.now.changed }
     ensures { IfOk result (λ asked. asked ≡ of_import (imports.import entry.now bytes.now offset)) }
 {

@@ -9,7 +9,7 @@ mod report;
 mod showing;
 mod tables;
 
-pub use asking::{Asked, ask_file};
+pub use asking::{Asked, ask_file, imported};
 pub use importing::import;
 pub use report::{End, Report};
 pub use showing::show;

@@ -61,8 +61,8 @@ impl Report {
         }
     }
 
-    /// Appends to the text for out.
-    pub(crate) fn push_out(&mut self, text: &str) -> Result<(), AllocError>
+    /// Appends to the text for out. Fails only where memory runs out.
+    pub fn push_out(&mut self, text: &str) -> Result<(), AllocError>
         ensures { OnOk result (self.new ≡ record self.old { out = self.old.out ++ text.now }) }
     {
         self.out.push_str(text)
