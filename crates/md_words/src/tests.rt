@@ -191,10 +191,14 @@ fn reads_words(rt: HostRuntime) -> Result<(), Fail> {
 fn reads_searches(rt: HostRuntime) -> Result<(), Fail> {
     let alloc = rt.alloc();
     let rows = [
-        ("mdfind x", "0 find <> guess [x]"),
+        ("mdfind budget 2024", "0 find <> guess [budget 2024]"),
         (
-            "mdfind kMDItemFSName == \"*\"",
-            "0 find <> guess [kMDItemFSName == \"*\"]",
+            "mdfind kMDItemFSName == \"notes.txt\"",
+            "0 find <> guess [kMDItemFSName == \"notes.txt\"]",
+        ),
+        (
+            "mdfind InRange(kMDItemNumberOfPages, 10, 20)",
+            "0 find <> guess [InRange(kMDItemNumberOfPages, 10, 20)]",
         ),
         (
             "mdfind -onlyin docs -count budget",
@@ -214,7 +218,14 @@ fn reads_searches(rt: HostRuntime) -> Result<(), Fail> {
         ("mdfind -name x _", "0 find <> [x] guess []"),
         ("mdfind -count -0 x", "0 find zero count <> guess [x]"),
         ("mdfind -literal budget", "0 find <> literal [budget]"),
-        ("mdfind -interpret a == 1", "0 find <> plain [a == 1]"),
+        (
+            "mdfind -interpret rent = 900",
+            "0 find <> plain [rent = 900]",
+        ),
+        (
+            "mdfind -onlyin docs -name plan budget",
+            "0 find <docs> [plan] guess [budget]",
+        ),
         ("-offset +0100 mdfind x", "60 find <> guess [x]"),
         ("mdfind _", "0 find <> guess []"),
         ("mdfind x _ y", "0 find <> guess [x  y]"),
