@@ -1,5 +1,5 @@
 mod Ends
 mod Holding
-mod Scripts
+pub mod Scripts
 mod Summing
 mod Telling
