@@ -1,20 +1,15 @@
 // Scripts of queries in parts, disabled, stopped and in batches, and of files with faults.
-use crate::runs::live;
-use std::alloc::Global;
+use crate::runs::{ending, live};
 use std::test::Fail;
 
-// Runs a script, and says how that ended: the status's number, and the texts for out and for err with a bar before each.
-fn told(alloc: Global, script: &str) -> Result<String, Fail> {
-    let ran = live(alloc, script.as_bytes())?;
-    let code = ran.status.code();
-    let out = std::str::from_utf8(ran.out.taken())?;
-    let err = std::str::from_utf8(ran.err.taken())?;
-    Ok(format!(in alloc; "{code}|{out}|{err}")?)
+// Runs a script, and says how that ended.
+fn told(rt: HostRuntime, script: &str) -> Result<String, Fail> {
+    let ran = live(rt, script.as_bytes())?;
+    ending(rt.alloc(), &ran)
 }
 
 #[test]
 fn disables_hold_updates(rt: HostRuntime) -> Result<(), Fail> {
-    let alloc = rt.alloc();
     let rows = [
         // A change that comes and goes while updates are disabled.
         (
@@ -37,14 +32,13 @@ fn disables_hold_updates(rt: HostRuntime) -> Result<(), Fail> {
         ),
     ];
     for (script, want) in rows {
-        assert_eq!(rt; told(alloc, script)?.as_str(), want);
+        assert_eq!(rt; told(rt, script)?.as_str(), want);
     }
     Ok(())
 }
 
 #[test]
 fn hits_come_in_parts(rt: HostRuntime) -> Result<(), Fail> {
-    let alloc = rt.alloc();
     let rows = [
         (
             "put a.txt x\nput b.txt x\nput c.txt x\nput d.txt x\nc0 query 1 first=2 progress=2 where kMDItemFSName == \"*\"\nc0 gather 1\nc0 gather 1\nc0 gather 1\nc0 gather 1\n",
@@ -62,14 +56,13 @@ fn hits_come_in_parts(rt: HostRuntime) -> Result<(), Fail> {
         ),
     ];
     for (script, want) in rows {
-        assert_eq!(rt; told(alloc, script)?.as_str(), want);
+        assert_eq!(rt; told(rt, script)?.as_str(), want);
     }
     Ok(())
 }
 
 #[test]
 fn updates_wait_for_a_batch(rt: HostRuntime) -> Result<(), Fail> {
-    let alloc = rt.alloc();
     let rows = [
         (
             "c0 query 1 update=2 ms=500 where kMDItemFSName == \"*\"\nc0 gather 1\nput a.txt x\nat 100\nc0 poll 1\nat 500\nc0 poll 1\nput b.txt x\nput c.txt x\nc0 poll 1\n",
@@ -82,14 +75,13 @@ fn updates_wait_for_a_batch(rt: HostRuntime) -> Result<(), Fail> {
         ),
     ];
     for (script, want) in rows {
-        assert_eq!(rt; told(alloc, script)?.as_str(), want);
+        assert_eq!(rt; told(rt, script)?.as_str(), want);
     }
     Ok(())
 }
 
 #[test]
 fn files_are_imported_as_they_are_put(rt: HostRuntime) -> Result<(), Fail> {
-    let alloc = rt.alloc();
     let rows = [
         (
             "put x.json [1]\n",
@@ -111,7 +103,7 @@ fn files_are_imported_as_they_are_put(rt: HostRuntime) -> Result<(), Fail> {
         ),
     ];
     for (script, want) in rows {
-        assert_eq!(rt; told(alloc, script)?.as_str(), want);
+        assert_eq!(rt; told(rt, script)?.as_str(), want);
     }
     Ok(())
 }

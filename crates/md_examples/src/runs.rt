@@ -55,12 +55,13 @@ pub fn no_fails(alloc: Global) -> Fails {
 
 /// Runs these words over a tree.
 pub fn run_over(
-    alloc: Global,
+    rt: HostRuntime,
     tree: &mut MemoryTree,
     words: &[&str],
     script: &[u8],
     fails: Fails,
 ) -> Result<Ran, Fail> {
+    let alloc = rt.alloc();
     let mut owned = Vec::new(alloc);
     for word in words {
         owned.push(String::from_str(alloc, word)?)?;
@@ -70,6 +71,7 @@ pub fn run_over(
     let mut out = MemorySink::new(alloc, 4, fails.out);
     let mut err = MemorySink::new(alloc, 4, fails.err);
     let outcome = run(
+        &rt,
         alloc,
         &owned,
         tree,
@@ -95,12 +97,13 @@ fn file(alloc: Global, path: &str, content: &str) -> Result<(Entry, Items<u8>), 
     Ok((entry, Items::from_vec(bytes)))
 }
 
-/// A tree of the folder `docs` and these files, each changed at the clock's moment, which fails in its calls of these
+/// A tree of the folders `docs` and `docs2` and these files, each changed at the clock's moment, which fails in its calls of these
 /// numbers.
 pub fn tree_of(alloc: Global, files: &[(&str, &str)], fails: Vec<u64>) -> Result<MemoryTree, Fail> {
     let mut folders = Vec::new(alloc);
     folders.push(Path::root(alloc))?;
     folders.push(Path::read(alloc, "docs")?)?;
+    folders.push(Path::read(alloc, "docs2")?)?;
     let mut made = Vec::new(alloc);
     for (path, content) in files {
         made.push(file(alloc, path, content)?)?;
@@ -112,12 +115,21 @@ pub fn tree_of(alloc: Global, files: &[(&str, &str)], fails: Vec<u64>) -> Result
 }
 
 /// Runs these words over a tree with no file.
-pub fn run_words(alloc: Global, words: &[&str], script: &[u8], fails: Fails) -> Result<Ran, Fail> {
+pub fn run_words(rt: HostRuntime, words: &[&str], script: &[u8], fails: Fails) -> Result<Ran, Fail> {
+    let alloc = rt.alloc();
     let mut tree = tree_of(alloc, &[], Vec::new(alloc))?;
-    run_over(alloc, &mut tree, words, script, fails)
+    run_over(rt, &mut tree, words, script, fails)
 }
 
 /// Runs `live` with no object that fails.
-pub fn live(alloc: Global, script: &[u8]) -> Result<Ran, Fail> {
-    run_words(alloc, &["live"], script, no_fails(alloc))
+pub fn live(rt: HostRuntime, script: &[u8]) -> Result<Ran, Fail> {
+    run_words(rt, &["live"], script, no_fails(rt.alloc()))
+}
+
+/// How a run ended: the status's number, and the texts for out and for err with a bar before each.
+pub fn ending(alloc: Global, ran: &Ran) -> Result<String, Fail> {
+    let code = ran.status.code();
+    let out = std::str::from_utf8(ran.out.taken())?;
+    let err = std::str::from_utf8(ran.err.taken())?;
+    Ok(format!(in alloc; "{code}|{out}|{err}")?)
 }

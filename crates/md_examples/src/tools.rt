@@ -1,7 +1,6 @@
 // The tools on files, over the top call.
-use crate::runs::{no_fails, run_over, tree_of};
+use crate::runs::{ending, no_fails, run_over, tree_of};
 use md_tool::Status;
-use std::alloc::Global;
 use std::test::Fail;
 
 /// The attributes of `a.txt`, whose content is `hi`, as `mdls` prints them.
@@ -33,15 +32,12 @@ const FILES: [(&str, &str); 8] = [
     ("x.json", "{\"kMDItemAuthors\": [\"Ann\", \"Bob\"]}"),
 ];
 
-// Runs words over these files, and says how the run ended: the status's number, and the texts for out and for err with a
-// bar before each.
-fn told(alloc: Global, words: &[&str], fails: &[u64]) -> Result<String, Fail> {
+// Runs words over these files, and says how the run ended.
+fn told(rt: HostRuntime, words: &[&str], fails: &[u64]) -> Result<String, Fail> {
+    let alloc = rt.alloc();
     let mut tree = tree_of(alloc, &FILES, Vec::from_slice(alloc, fails)?)?;
-    let ran = run_over(alloc, &mut tree, words, b"", no_fails(alloc))?;
-    let code = ran.status.code();
-    let out = std::str::from_utf8(ran.out.taken())?;
-    let err = std::str::from_utf8(ran.err.taken())?;
-    Ok(format!(in alloc; "{code}|{out}|{err}")?)
+    let ran = run_over(rt, &mut tree, words, b"", no_fails(alloc))?;
+    ending(alloc, &ran)
 }
 
 #[test]
@@ -49,12 +45,12 @@ fn mdls_prints_the_attributes_of_files(rt: HostRuntime) -> Result<(), Fail> {
     let alloc = rt.alloc();
     let whole = format!(in alloc; "0|{LISTED}|")?;
     assert_eq!(rt;
-        told(alloc, &["mdls", "a.txt"], &[])?.as_str(),
+        told(rt, &["mdls", "a.txt"], &[])?.as_str(),
         whole.as_str()
     );
     let absent = format!(in alloc; "7|{LISTED}|b.txt: not found\n")?;
     assert_eq!(rt;
-        told(alloc, &["mdls", "a.txt", "b.txt"], &[])?.as_str(),
+        told(rt, &["mdls", "a.txt", "b.txt"], &[])?.as_str(),
         absent.as_str()
     );
     let rows = [
@@ -114,14 +110,13 @@ fn mdls_prints_the_attributes_of_files(rt: HostRuntime) -> Result<(), Fail> {
         ),
     ];
     for (words, want) in rows {
-        assert_eq!(rt; told(alloc, words, &[])?.as_str(), want);
+        assert_eq!(rt; told(rt, words, &[])?.as_str(), want);
     }
     Ok(())
 }
 
 #[test]
 fn mdimport_counts_the_attributes_of_files(rt: HostRuntime) -> Result<(), Fail> {
-    let alloc = rt.alloc();
     let rows = [
         (
             ["mdimport", "a.txt"].as_slice(),
@@ -143,14 +138,13 @@ fn mdimport_counts_the_attributes_of_files(rt: HostRuntime) -> Result<(), Fail> 
         (&["mdls", "-raw"], "1||mdserve: words not understood\n"),
     ];
     for (words, want) in rows {
-        assert_eq!(rt; told(alloc, words, &[])?.as_str(), want);
+        assert_eq!(rt; told(rt, words, &[])?.as_str(), want);
     }
     Ok(())
 }
 
 #[test]
 fn a_tree_that_fails_is_a_read_fault(rt: HostRuntime) -> Result<(), Fail> {
-    let alloc = rt.alloc();
     let rows = [
         (
             ["mdls", "-name", "kMDItemFSSize", "a.txt", "none", "a.txt"].as_slice(),
@@ -169,15 +163,14 @@ fn a_tree_that_fails_is_a_read_fault(rt: HostRuntime) -> Result<(), Fail> {
         ),
     ];
     for (words, fails, want) in rows {
-        assert_eq!(rt; told(alloc, words, fails)?.as_str(), want);
+        assert_eq!(rt; told(rt, words, fails)?.as_str(), want);
     }
     Ok(())
 }
 
 #[test]
 fn the_schema_is_listed(rt: HostRuntime) -> Result<(), Fail> {
-    let alloc = rt.alloc();
-    let told = told(alloc, &["mdimport", "-A"], &[])?;
+    let told = told(rt, &["mdimport", "-A"], &[])?;
     assert!(rt; told.starts_with("0|kMDItemAuthors CFString many\nkMDItemComment CFString one\n"));
     assert!(rt; told.ends_with("md_csv_rows CFNumber one\nmd_imported CFBoolean one\n|"));
     assert_eq!(rt; told.as_str().lines().count(), 27);

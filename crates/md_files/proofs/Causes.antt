@@ -38,7 +38,7 @@ tells_none = record { none = λ e. refl; any = λ e. cc }
 tells_one : Tells true 1
 tells_one = record { none = λ e. cc; any = λ e. omega arith }
 
-quiet_named : (path : PathBytes) (given : Result (List Attr) Fault) → is_failed (named path (of_import given)) ≡ false
+pub quiet_named : (path : PathBytes) (given : Result (List Attr) Fault) → is_failed (named path (of_import given)) ≡ false
 quiet_named path (Ok attrs) = refl
 quiet_named path (Err fault) = refl
 
@@ -46,7 +46,7 @@ quiet_listed : (path : PathBytes) (given : Result (List Attr) Fault) → is_fail
 quiet_listed path (Ok attrs) = refl
 quiet_listed path (Err fault) = refl
 
-there_named : (path : PathBytes) (given : Result (List Attr) Fault) → is_absent (named path (of_import given)) ≡ false
+pub there_named : (path : PathBytes) (given : Result (List Attr) Fault) → is_absent (named path (of_import given)) ≡ false
 there_named path (Ok attrs) = refl
 there_named path (Err fault) = refl
 
@@ -115,14 +115,14 @@ cause_by before now n true none counted tells = (counted.later, rose_one (2 ^ 64
 cause_by before now n false true counted tells = counted.kept (tells.none refl)
 cause_by before now n false false counted tells = counted.kept (tells.none refl)
 
-and_false : (b c : Bool) → c ≡ false → (b && c) ≡ false
+pub and_false : (b c : Bool) → c ≡ false → (b && c) ≡ false
 and_false true c e = e
 and_false false c e = refl
 
-not_true : (b : Bool) → b ≡ false → b ≡ true → ⊥
+pub not_true : (b : Bool) → b ≡ false → b ≡ true → ⊥
 not_true b e h = cc
 
-is_absent_end : (some none : Bool) → end_by some none ≡ ended.Absent → none ≡ true
+pub is_absent_end : (some none : Bool) → end_by some none ≡ ended.Absent → none ≡ true
 is_absent_end true none is = cc
 is_absent_end false true is = refl
 is_absent_end false false is = cc

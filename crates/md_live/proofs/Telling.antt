@@ -1,42 +1,135 @@
--- The texts of a line, and then of the lines after it.
-use Rattle.std.proofs.Common.{◌≡◌, ℕ, ℤ, ◌+◌, ◌≤◌, List, ◌++◌, length, sym, ◌∙◌, ap, arith, append_assoc, Option, Some, None}
+-- What is told of all that the lines do is the report of the run.
+use Rattle.std.proofs.Common.{◌≡◌, ◌⊎◌, inl, inr, ℕ, ℤ, ◌+◌, ◌≤◌, List, [], ◌∷◌, ◌++◌, length, fold, refl, sym, ◌∙◌, ap, arith, append_assoc, append-nil, length-append, Option, Some, None}
+use Rattle.std.specs.List.{filter_map, flat_map}
 use Rattle.md_value.specs.Values.{PathBytes}
 use Rattle.md_world.specs.declared.Change.{Change}
 use Rattle.md_world.specs.declared.Change.TheVariants as change
+use Rattle.md_world.specs.declared.TheConstants.Limits.{STANDARD}
 use Rattle.md_machine.specs.declared.Event.{Event}
 use Rattle.md_machine.specs.declared.Event.TheVariants as event
 use Rattle.md_machine.specs.declared.Reply.{Reply}
 use Rattle.md_machine.specs.declared.Reply.TheVariants as reply
-use Rattle.md_machine.specs.States.{State}
+use Rattle.md_machine.specs.States.{State, opening, query_at}
 use Rattle.md_machine.specs.Steps.{step}
-use Rattle.md_machine.specs.Runs.{run_from}
-use Rattle.md_machine.proofs.Joining.{entries-join, length-entries}
+use Rattle.md_machine.specs.Runs.{Entry, run_from, run, entries}
+use Rattle.md_machine.proofs.Joining.{last-join, entries-join, length-entries}
 use Rattle.md_render.specs.Texts.{journal_text}
-use Rattle.md_render.proofs.Joined.{journal_text-append}
-use Rattle.md_script.specs.declared.script.What.{What}
-use Rattle.md_script.specs.declared.script.What.TheVariants as what
-use Rattle.md_live.specs.Moments.{moment_of}
-use Rattle.md_live.specs.Files.{put_file, change_of}
-use Rattle.md_live.specs.Events.{after_commit, end_of, after_draw, job, line_events, entries_from}
-use Rattle.md_live.specs.Telling.{Telling, told}
+use Rattle.md_files.specs.Additions.{no_report, worse, noted}
+use Rattle.md_files.specs.Findings.{Finding, end_of, err_line}
+use Rattle.md_files.specs.Findings.Finding.{named}
+use Rattle.md_files.specs.Reports.{Report}
+use Rattle.md_files.specs.declared.asking.Asked.{Asked}
+use Rattle.md_files.specs.declared.report.End.{End}
+use Rattle.md_files.proofs.Additions.{counted_none, counted_more}
+use Rattle.md_script.specs.declared.script.Line.{Line}
+use Rattle.md_live.specs.Actions.{Action, actions_of, change_of}
+use Rattle.md_live.specs.Actions.Action.{job, removal, query, show}
+use Rattle.md_live.specs.Events.{after_commit, end_of as ticket_events, after_draw, job_events, events_of, entries_from}
+use Rattle.md_live.specs.Texts.{shown_text, text_from}
+use Rattle.md_live.specs.Reports.{finding_of, report_of_actions}
+use Rattle.md_live.specs.Telling.{Telling, untold, with_text, after_events, after_action}
+use Rattle.md_live.proofs.Holding.{shown_so}
 
--- what was written of the events, then what is to be written of those after them
-pub told_then : (t : Telling) (events more : List Event)
-    → (told t events).text ++ journal_text (told t events).next (entries_from (told t events).state more)
-    ≡ t.text ++ journal_text t.next (entries_from t.state (events ++ more))
-told_then t events more =
-    let here = entries_from t.state events in
-    let there = entries_from (run_from t.state events).last more in
-    let long : length here ≡ length events = length-entries t.state events in
-    let parts : journal_text t.next (entries_from t.state (events ++ more)) ≡ journal_text t.next here ++ journal_text (t.next + length events) there =
-    ap (journal_text t.next) (entries-join t.state events more) ∙ journal_text-append t.next here there ∙ ap (λ n. journal_text t.next here ++ journal_text (t.next + n) there) long in
-    append_assoc t.text (journal_text t.next here) (journal_text (t.next + length events) there) ∙ ap (λ xs. t.text ++ xs) (sym parts)
+-- after all that is done
+abbrev pub after_actions : Telling → List Action → Telling
+after_actions t actions = fold after_action t actions
+
+-- a server that events led to from the opening state, with a report
+abbrev led : List Event → Report → Telling
+led events report = record { state = (run STANDARD events).last; report = report; next = 1 + length events }
+
+abbrev made : End → List ℕ → List ℕ → Report
+made end out err = record { end = end; out = out; err = err }
+
+-- a report with findings, and with this text for out
+abbrev with_findings : Report → List Finding → List ℕ → Report
+with_findings report findings out = made (worse report.end (end_of findings)) out (report.err ++ flat_map err_line findings)
+
+-- a report with what is printed of what is done after these events
+abbrev told_after : List Event → Report → List Action → Report
+told_after events report actions =
+    with_findings report (filter_map finding_of actions) (report.out ++ text_from (entries STANDARD events) (run STANDARD events).last actions)
+
+module _ (events more : List Event) where
+  abbrev here : State
+  here = (run STANDARD events).last
+
+  abbrev text : List ℕ
+  text = journal_text (1 + length (entries STANDARD events)) (entries_from here more)
+
+  led_on : (report : Report) → after_events (led events report) more ≡ led (events ++ more) (with_text report text)
+  led_on report =
+      let places : 1 + length events + length more ≡ 1 + length (events ++ more) = omega (arith, length-append events more) in
+      rw (last-join (opening STANDARD) events more, places, length-entries (opening STANDARD) events) refl
+
+  -- the text of events and of what is done after them
+  text_on : (report : Report) (actions : List Action)
+      → (told_after (events ++ more) (with_text report text) actions).out
+      ≡ report.out ++ (text ++ text_from (entries STANDARD events ++ entries_from here more) (run_from here more).last actions)
+  text_on report actions =
+      rw (entries-join (opening STANDARD) events more, last-join (opening STANDARD) events more)
+      (append_assoc report.out text (text_from (entries STANDARD events ++ entries_from here more) (run_from here more).last actions))
+
+  -- what is told of events that leave no finding, and of what is done after them
+  told_on : (report : Report) (actions : List Action)
+      → ((r : Report) → (after_actions (led (events ++ more) r) actions).report ≡ told_after (events ++ more) r actions)
+      → (after_actions (after_events (led events report) more) actions).report
+      ≡ with_findings report (filter_map finding_of actions) (report.out ++ (text ++ text_from (entries STANDARD events ++ entries_from here more) (run_from here more).last actions))
+  told_on report actions rest =
+      ap (λ (t : Telling). (after_actions t actions).report) (led_on report)
+      ∙ rest (with_text report text)
+      ∙ ap (with_findings report (filter_map finding_of actions)) (text_on report actions)
+
+-- a finding that is noted comes before those of the rest
+noted_on : (report : Report) (finding : Finding) (findings : List Finding) (out : List ℕ)
+    → with_findings (noted report finding) findings out ≡ with_findings report (finding ∷ findings) out
+noted_on report finding findings out =
+    let ends : worse (noted report finding).end (end_of findings) ≡ worse report.end (end_of (finding ∷ findings)) =
+    ap (λ (r : Report). r.end) (counted_more report (finding ∷ []) findings) in
+    let lines : (noted report finding).err ++ flat_map err_line findings ≡ report.err ++ flat_map err_line (finding ∷ findings) =
+    append_assoc report.err (err_line finding) (flat_map err_line findings) in
+    ap (λ (end : End). made end out ((noted report finding).err ++ flat_map err_line findings)) ends
+    ∙ ap (made (worse report.end (end_of (finding ∷ findings))) out) lines
+
+told_so : (events : List Event) (report : Report) (actions : List Action)
+    → (after_actions (led events report) actions).report ≡ told_after events report actions
+told_so events report [] = counted_none report
+told_so events report (job path given ∷ actions) =
+    let more = events_of (run STANDARD events).last (job path given) in
+    let finding = named path given in
+    told_on events more (noted report finding) actions (λ r. told_so (events ++ more) r actions)
+    ∙ noted_on report finding (filter_map finding_of actions)
+    (report.out ++ text_from (entries STANDARD events) (run STANDARD events).last (job path given ∷ actions))
+told_so events report (removal path ∷ actions) =
+    let more = events_of (run STANDARD events).last (removal path) in
+    told_on events more report actions (λ r. told_so (events ++ more) r actions)
+told_so events report (query event ∷ actions) =
+    let more = event ∷ [] in
+    told_on events more report actions (λ r. told_so (events ++ more) r actions)
+told_so events report (show client number ∷ actions) =
+    let shown = shown_text (entries STANDARD events) client number (query_at (run STANDARD events).last.queries client number) in
+    let rest = λ (all : List Entry). text_from all (run STANDARD events).last actions in
+    ap (λ (text : List ℕ). (after_actions (led events (with_text report text)) actions).report) (shown_so events client number)
+    ∙ told_so events (with_text report shown) actions
+    ∙ ap (with_findings report (filter_map finding_of actions))
+    (append_assoc report.out shown (rest (entries STANDARD events)) ∙ ap (λ (all : List Entry). report.out ++ (shown ++ rest all)) (sym (append-nil (entries STANDARD events))))
+
+-- what is told of a whole run is its report
+pub told_all : (actions : List Action) → (after_actions untold actions).report ≡ report_of_actions actions
+told_all actions = told_so [] no_report actions
+
+-- where no line is left, or nothing that was given, nothing is left to be done
+pub none_left : (now offset : ℤ) (lines : List Line) (givens : List (Option Asked)) → (length lines ≡ 0) ⊎ (length givens ≡ 0) → actions_of now offset lines givens ≡ []
+none_left now offset [] givens ended = refl
+none_left now offset (line ∷ lines) [] ended = refl
+none_left now offset (line ∷ lines) (given ∷ givens) (inl e) = cc
+none_left now offset (line ∷ lines) (given ∷ givens) (inr e) = cc
 
 few_after_commit : (ticket : ℕ) (r : Reply) → length (after_commit ticket r) ≤ 1
 few_after_commit ticket reply.StoreFull = omega arith
 few_after_commit ticket _ = omega arith
 
-few_at_end : (s : State) (ticket : ℕ) (c : Option Change) → length (end_of s ticket c) ≤ 2
+few_at_end : (s : State) (ticket : ℕ) (c : Option Change) → length (ticket_events s ticket c) ≤ 2
 few_at_end s ticket (Some c) = omega (arith, few_after_commit ticket (step s (event.Commit ticket c)).reply)
 few_at_end s ticket None = omega arith
 
@@ -44,18 +137,12 @@ few_after_draw : (s : State) (c : Option Change) (r : Reply) → length (after_d
 few_after_draw s c (reply.Ticket ticket) = few_at_end s ticket c
 few_after_draw s c _ = omega arith
 
-few_in_job : (s : State) (path : PathBytes) (c : Option Change) → length (job s path c) ≤ 3
+few_in_job : (s : State) (path : PathBytes) (c : Option Change) → length (job_events s path c) ≤ 3
 few_in_job s path c = omega (arith, few_after_draw (step s (event.Draw path)).state c (step s (event.Draw path)).reply)
 
--- a line has at most three events
-pub few_events : (now offset : ℤ) (s : State) (ms : ℕ) (w : What) → length (line_events now offset s ms w) ≤ 3
-few_events now offset s ms (what.Put path text) = few_in_job s path (change_of (put_file (moment_of now ms) offset path text))
-few_events now offset s ms (what.Remove path) = few_in_job s path (Some change.Remove)
-few_events now offset s ms (what.Query client number expr scope order batch) = omega arith
-few_events now offset s ms (what.Gather client number) = omega arith
-few_events now offset s ms (what.Poll client number) = omega arith
-few_events now offset s ms (what.Disable client number) = omega arith
-few_events now offset s ms (what.Enable client number) = omega arith
-few_events now offset s ms (what.Stop client number) = omega arith
-few_events now offset s ms (what.Import path) = omega arith
-few_events now offset s ms (what.Show client number) = omega arith
+-- what is done has at most three events
+pub few_after : (t : Telling) (action : Action) → (after_action t action).next ≤ t.next + 3
+few_after t (job path given) = omega (arith, few_in_job t.state path (change_of given))
+few_after t (removal path) = omega (arith, few_in_job t.state path (Some change.Remove))
+few_after t (query event) = omega arith
+few_after t (show client number) = omega arith

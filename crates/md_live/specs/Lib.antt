@@ -1,6 +1,8 @@
 pub mod Moments
-pub mod Files
-pub mod Events
 pub mod TimeForms
+pub mod Given
+pub mod Actions
+pub mod Events
+pub mod Texts
+pub mod Reports
 pub mod Telling
-pub mod Journals

@@ -1,38 +1,65 @@
--- A server with the texts of its run so far.
-use Rattle.std.specs.Prelude.{ℕ, ◌+◌, ℤ, List, [], ◌∷◌, ◌++◌, length}
+-- A server with the report of its run so far.
+use Rattle.std.specs.Prelude.{ℕ, ◌+◌, List, [], ◌∷◌, ◌++◌, length, Option}
+use Rattle.std.specs.Option.{option_map}
+use Rattle.md_world.specs.Holding.{with_rows}
+use Rattle.md_world.specs.Orders.{in_order}
+use Rattle.md_world.specs.declared.TheConstants.Limits.{STANDARD}
+use Rattle.md_hub.specs.Given.{given_by}
+use Rattle.md_hub.specs.declared.held.Held.{Held}
 use Rattle.md_machine.specs.declared.Event.{Event}
 use Rattle.md_machine.specs.declared.Event.TheVariants as event
-use Rattle.md_machine.specs.States.{State}
+use Rattle.md_machine.specs.States.{State, opening, query_at}
 use Rattle.md_machine.specs.Runs.{run_from}
-use Rattle.md_render.specs.Texts.{journal_text}
+use Rattle.md_render.specs.Texts.{journal_text, follower_text}
+use Rattle.md_notice.specs.Following.{Followed}
+use Rattle.md_files.specs.Additions.{no_report, noted}
+use Rattle.md_files.specs.Findings.Finding.{named}
+use Rattle.md_files.specs.Reports.{Report}
 use Rattle.md_script.specs.declared.script.What.{What}
 use Rattle.md_script.specs.declared.script.What.TheVariants as what
-use Rattle.md_live.specs.Events.{line_events, entries_from}
-use Rattle.md_live.specs.Journals.{complaint}
+use Rattle.md_live.specs.Actions.{Action}
+use Rattle.md_live.specs.Actions.Action.{job, show}
+use Rattle.md_live.specs.Events.{events_of, entries_from}
 
 pub record Telling : Type 0 where
   pub state : State
-  pub text : List ℕ  -- the journal
-  pub err : List ℕ  -- the lines of faults
+  pub report : Report  -- the text for out so far, the lines on files, and how their askings ended
   pub next : ℕ  -- the place of the next entry
 
+-- the opening state, and nothing told
+abbrev pub untold : Telling
+untold = record { state = opening STANDARD; report = no_report; next = 1 }
+
+-- with more text for out
+abbrev pub with_text : Report → List ℕ → Report
+with_text report text = record report { out = report.out ++ text }
+
 -- after these events: the state that they lead to, and their entries written
-abbrev pub told : Telling → List Event → Telling
-told t events =
+abbrev pub after_events : Telling → List Event → Telling
+after_events t events =
     record {
       state = (run_from t.state events).last;
-      text = t.text ++ journal_text t.next (entries_from t.state events);
-      err = t.err;
+      report = with_text t.report (journal_text t.next (entries_from t.state events));
       next = t.next + length events;
     }
 
--- with these lines of faults more
-abbrev pub complained : Telling → List ℕ → Telling
-complained t lines = record t { err = t.err ++ lines }
+-- with what became of a job's file
+abbrev pub noting : Telling → Action → Telling
+noting t (job path given) = record t { report = noted t.report (named path given) }
+noting t _ = t
 
--- after a line
-abbrev pub after_line : ℤ → ℤ → Telling → ℕ → What → Telling
-after_line now offset t ms what = complained (told t (line_events now offset t.state ms what)) (complaint now offset ms what)
+-- the hits that a live query has given, in its order
+abbrev pub followed : Held → Followed
+followed held = record { order = held.order; rows = in_order held.order (with_rows [] held.rows); version = held.version }
+
+-- those of the query of a client and a number, if it is live
+abbrev pub followed_in : State → ℕ → ℕ → Option Followed
+followed_in s client number = option_map followed (option_map given_by (query_at s.queries client number))
+
+-- after what is done
+abbrev pub after_action : Telling → Action → Telling
+after_action t (show client number) = record t { report = with_text t.report (follower_text client number (followed_in t.state client number)) }
+after_action t action = after_events (noting t action) (events_of t.state action)
 
 -- the event by which a line asks a query for something, if it does
 abbrev pub asked_events : ℕ → What → List Event

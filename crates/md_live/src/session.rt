@@ -1,49 +1,44 @@
-// The lines of a script, run one after the other.
-ghost use Rattle.std.specs.Prelude.{◌≡◌, ◌+◌, ◌*◌, ◌<◌, ◌≤◌, ◌^◌, ◌∷◌, [], Err, IfOk, OnOk, length};
+// A server that the lines of a script are run on, one after the other.
+ghost use Rattle.std.specs.Prelude.{◌≡◌, ◌+◌, ◌<◌, ◌^◌, ◌∷◌, [], IfOk, OnOk};
 ghost use Rattle.md_value.specs.Values.{IsMoment};
-ghost use Rattle.md_world.specs.declared.TheConstants.Limits.{STANDARD};
 ghost use Rattle.md_machine.specs.Answers.{asked};
-ghost use Rattle.md_machine.specs.States.{opening};
 ghost use Rattle.md_machine.specs.Steps.{step};
-ghost use Rattle.md_script.specs.declared.script.What.TheVariants.{Put};
-ghost use Rattle.md_live.specs.Files.{fault_line};
-ghost use Rattle.md_live.specs.Events.{end_of, job};
-ghost use Rattle.md_live.specs.Journals.{printed};
-ghost use Rattle.md_live.specs.Telling.{Telling, told, complained, after_line, asked_events};
+ghost use Rattle.md_live.specs.Actions as actions;
+ghost use Rattle.md_live.specs.Actions.Action.{job, show};
+ghost use Rattle.md_live.specs.Actions.{action_at};
+ghost use Rattle.md_live.specs.Events.{end_of, job_events};
+ghost use Rattle.md_live.specs.Telling.{Telling, untold, after_events, after_action, followed_in, asked_events};
 
-use crate::Printed;
 use crate::moments::moment_of;
-use imp_kind::{Imported, import};
 use md_expr_tree::Expr;
+use md_files::{Asked, Report, imported};
 use md_hub::Hub;
 use md_machine::{Batch, Event, Reply, Spec};
-use md_print::fault_text;
-use md_render::entry_text;
+use md_notice::Follower;
+use md_render::{entry_text, held_text};
 use md_script::{Content, Line, What};
 use md_source::Entry;
-use md_value::{Copied, Fault, Path};
-use md_world::{Change, Limits, Order};
+use md_value::{Copied, Path};
+use md_world::{Change, Limits, Order, Part};
 use std::alloc::{AllocError, Global};
 use std::marker::Model;
 
-// The moment of a run, in seconds since 1970 in UTC, and the minutes by which local time is ahead of UTC.
+/// The moment of a run, in seconds since 1970 in UTC, and the minutes by which local time is ahead of UTC.
 #[derive(Clone, Copy)]
-struct Setting {
-    moment: i64,
-    offset: i32,
+pub struct Setting {
+    pub moment: i64,
+    pub offset: i32,
 }
 
-// A server, and the texts of its run so far.
+/// A server, with the report of its run so far and the place of the next entry.
 #[derive(Drop)]
-struct Session {
+pub struct Session {
     hub: Hub,
-    text: String,
-    err: String,
+    report: Report,
     next: u64,
 }
 
 impl Model for Session {
-    ghost use Rattle.std.specs.Prelude.{string_bytes};
     ghost use Rattle.md_live.specs.Telling.{Telling};
 
     ghost Value = { Telling };
@@ -53,7 +48,7 @@ impl Model for Session {
 
     ghost coded = { Prim.hlevel (codes, expr.the_row.coded) };
 
-    ghost view = { λ s. record { state = s.hub; text = string_bytes s.text; err = string_bytes s.err; next = s.next } };
+    ghost view = { λ s. record { state = s.hub; report = s.report; next = s.next } };
 }
 
 // What a query asks. No form of time is out of range where this is called; if one were, this would answer want of memory.
@@ -77,30 +72,66 @@ fn spec_of(
     }
 }
 
+// What a file with this content gives that is put at the path and was changed at a moment.
+fn put_file(
+    alloc: Global,
+    changed: i64,
+    offset: i32,
+    path: &Path,
+    content: &Content,
+) -> Result<Asked, AllocError>
+    requires { IsMoment changed }
+    ensures { IfOk result (λ given. given ≡ actions.put_file changed offset path.now content.now) }
+{
+    let bytes = content.as_str().as_bytes();
+    let entry = Entry {
+        path: path.copy(alloc)?,
+        size: bytes.len() as u64,
+        changed,
+    };
+    imported(alloc, &entry, bytes, offset)
+}
+
+// The change that a file makes: its attributes are put, and nothing else makes one.
+fn change_of(given: Asked) -> Option<Change>
+    ensures { result ≡ actions.change_of given }
+{
+    match given {
+        Asked::Attrs(attrs) => Some(Change::Put(attrs)),
+        _ => None,
+    }
+}
+
 impl Session {
-    fn new(alloc: Global) -> Session
-        ensures { result ≡ record { state = opening STANDARD; text = []; err = []; next = 1 } }
+    /// The opening state, and nothing told.
+    pub fn new(alloc: Global) -> Session
+        ensures { result ≡ untold }
     {
         Session {
             hub: Hub::new(alloc, Limits::STANDARD),
-            text: String::new(alloc),
-            err: String::new(alloc),
+            report: Report::new(alloc),
             next: 1,
         }
+    }
+
+    pub fn into_report(self) -> Report
+        ensures { result ≡ self.report }
+    {
+        self.report
     }
 
     // Tells the server an event, and writes the entry.
     fn tell(&mut self, alloc: Global, event: &Event) -> Result<Reply, AllocError>
         requires { self.old.next + 1 < 2 ^ 64 }
         ensures reply { IfOk result (λ r. r ≡ (step self.old.state event.now).reply) }
-        ensures told { OnOk result (self.new ≡ told self.old (event.now ∷ [])) }
+        ensures told { OnOk result (self.new ≡ after_events self.old (event.now ∷ [])) }
     {
         let reply = self.hub.step(alloc, event);
         if let Reply::Memory = reply {
             return Err(AllocError);
         }
         let entry = entry_text(alloc, self.next, event, &reply)?;
-        self.text.push_str(entry.as_str())?;
+        self.report.push_out(entry.as_str())?;
         self.next += 1;
         Ok(reply)
     }
@@ -108,7 +139,7 @@ impl Session {
     // Tells the server an event whose reply ends its line.
     fn ask(&mut self, alloc: Global, event: &Event) -> Result<(), AllocError>
         requires { self.old.next + 1 < 2 ^ 64 }
-        ensures { OnOk result (self.new ≡ told self.old (event.now ∷ [])) }
+        ensures { OnOk result (self.new ≡ after_events self.old (event.now ∷ [])) }
     {
         self.tell(alloc, event)?;
         Ok(())
@@ -117,7 +148,7 @@ impl Session {
     // Commits a change, or closes the ticket where there is none.
     fn end(&mut self, alloc: Global, ticket: u32, change: Option<Change>) -> Result<(), AllocError>
         requires { self.old.next + 2 < 2 ^ 64 }
-        ensures { OnOk result (self.new ≡ told self.old (end_of self.old.state ticket change)) }
+        ensures { OnOk result (self.new ≡ after_events self.old (end_of self.old.state ticket change)) }
     {
         let Some(change) = change else {
             return self.ask(alloc, &Event::Close { ticket });
@@ -132,7 +163,7 @@ impl Session {
     // Draws a ticket for the path, and commits the change or closes the ticket.
     fn job(&mut self, alloc: Global, path: &Path, change: Option<Change>) -> Result<(), AllocError>
         requires { self.old.next + 3 < 2 ^ 64 }
-        ensures { OnOk result (self.new ≡ told self.old (job self.old.state path.now change)) }
+        ensures { OnOk result (self.new ≡ after_events self.old (job_events self.old.state path.now change)) }
     {
         let path = path.copy(alloc)?;
         let reply = self.tell(alloc, &Event::Draw { path })?;
@@ -142,47 +173,49 @@ impl Session {
         self.end(alloc, ticket, change)
     }
 
-    // Writes the line of a file's fault.
-    fn complain(&mut self, alloc: Global, path: &Path, fault: &Fault) -> Result<(), AllocError>
-        ensures { OnOk result (self.new ≡ complained self.old (fault_line path.now (Err fault.now))) }
+    // Notes what became of a file, and runs its job.
+    fn file(&mut self, alloc: Global, path: &Path, given: Asked) -> Result<(), AllocError>
+        requires { self.old.next + 3 < 2 ^ 64 }
+        ensures { OnOk result (self.new ≡ after_action self.old (job path.now given)) }
     {
-        let line = fault_text(alloc, path, fault)?;
-        self.err.push_str(line.as_str())
+        self.report.add_named(alloc, path, &given)?;
+        self.job(alloc, path, change_of(given))
     }
 
-    // Puts a file with this content at the path, at so many milliseconds of the run.
-    fn put(
-        &mut self,
+    // What the client of a live query holds, in the query's order.
+    fn follower(
+        &self,
         alloc: Global,
-        setting: &Setting,
-        ms: u64,
-        path: &Path,
-        content: &Content,
-    ) -> Result<(), AllocError>
-        requires room { self.old.next + 3 < 2 ^ 64 }
-        requires moment { IsMoment setting.now.moment }
-        ensures { OnOk result (self.new ≡ after_line setting.now.moment setting.now.offset self.old ms (Put path.now content.now)) }
+        client: u8,
+        number: u32,
+    ) -> Result<Option<Follower>, AllocError>
+        ensures { IfOk result (λ follower. follower ≡ followed_in self.now.state client number) }
     {
-        let bytes = content.as_str().as_bytes();
-        let entry = Entry {
-            path: path.copy(alloc)?,
-            size: bytes.len() as u64,
-            changed: moment_of(setting.moment, ms),
+        let Some(held) = self.hub.held(alloc, client, number)? else {
+            return Ok(None);
         };
-        match import(alloc, &entry, bytes, setting.offset) {
-            Imported::Attrs(attrs) => self.job(alloc, path, Some(Change::Put(attrs))),
-            Imported::Fault(fault) => {
-                self.job(alloc, path, None)?;
-                self.complain(alloc, path, &fault)
-            }
-            Imported::Memory => Err(AllocError),
-        }
+        let mut follower = Follower::new(alloc, held.order, held.version);
+        let part = Part {
+            hits: held.rows,
+            last: true,
+        };
+        follower.take_part(&part)?;
+        Ok(Some(follower))
+    }
+
+    // Prints what a client holds.
+    fn show(&mut self, alloc: Global, client: u8, number: u32) -> Result<(), AllocError>
+        ensures { OnOk result (self.new ≡ after_action self.old (show client number)) }
+    {
+        let follower = self.follower(alloc, client, number)?;
+        let text = held_text(alloc, client, number, follower.as_ref())?;
+        self.report.push_out(text.as_str())
     }
 
     // Asks a query for something, at a moment in milliseconds. Other lines ask for nothing.
     fn ask_query(&mut self, alloc: Global, ms: u64, what: &What) -> Result<(), AllocError>
         requires { self.old.next + 1 < 2 ^ 64 }
-        ensures { OnOk result (self.new ≡ told self.old (asked_events ms what.now)) }
+        ensures { OnOk result (self.new ≡ after_events self.old (asked_events ms what.now)) }
     {
         let event = match what {
             What::Gather { client, number } => Event::Gather {
@@ -213,13 +246,25 @@ impl Session {
         self.ask(alloc, &event)
     }
 
-    fn line(&mut self, alloc: Global, setting: &Setting, line: &Line) -> Result<(), AllocError>
+    /// Runs a line, with what the tree gave to it if it imports a file.
+    pub fn line(
+        &mut self,
+        alloc: Global,
+        setting: &Setting,
+        line: &Line,
+        given: Option<Asked>,
+    ) -> Result<(), AllocError>
         requires room { self.old.next + 3 < 2 ^ 64 }
         requires moment { IsMoment setting.now.moment }
-        ensures { OnOk result (self.new ≡ after_line setting.now.moment setting.now.offset self.old line.now.at_ms line.now.what) }
+        ensures { OnOk result (self.new ≡ after_action self.old (action_at setting.now.moment setting.now.offset line.now.at_ms line.now.what given)) }
     {
+        let moment = moment_of(setting.moment, line.at_ms);
         match &line.what {
-            What::Put { path, text } => self.put(alloc, setting, line.at_ms, path, text),
+            What::Put { path, text } => {
+                let given = put_file(alloc, moment, setting.offset, path, text)?;
+                self.file(alloc, path, given)
+            }
+            What::Import { path } => self.file(alloc, path, given.unwrap_or(Asked::Absent)),
             What::Remove { path } => self.job(alloc, path, Some(Change::Remove)),
             What::Query {
                 client,
@@ -229,7 +274,6 @@ impl Session {
                 order,
                 batch,
             } => {
-                let moment = moment_of(setting.moment, line.at_ms);
                 let spec = spec_of(alloc, expr, moment, setting.offset, scope, order, *batch)?;
                 let event = Event::Create {
                     client: *client,
@@ -238,29 +282,8 @@ impl Session {
                 };
                 self.ask(alloc, &event)
             }
+            What::Show { client, number } => self.show(alloc, *client, *number),
             what => self.ask_query(alloc, line.at_ms, what),
         }
     }
-}
-
-/// Runs these lines in order over a server of their own, from its opening state. `now` is in seconds since 1970 in UTC,
-/// and `offset` in minutes by which local time is ahead of UTC. A file that is put with a fault of its content gets no
-/// row; its fault has a line on err.
-pub fn run(alloc: Global, now: i64, offset: i32, lines: &[Line]) -> Result<Printed, AllocError>
-    requires few { length lines.now ≤ 100_000 }
-    requires moment { IsMoment now }
-    ensures { IfOk result (λ p. p ≡ printed now offset lines.now) }
-{
-    let setting = Setting {
-        moment: now,
-        offset,
-    };
-    let mut session = Session::new(alloc);
-    for line in lines {
-        session.line(alloc, &setting, line)?;
-    }
-    Ok(Printed {
-        out: session.text,
-        err: session.err,
-    })
 }

@@ -1,2 +1,5 @@
 pub mod Joining
 pub mod ManyPaths
+pub mod Searching
+pub mod Numerals
+pub mod Spacing

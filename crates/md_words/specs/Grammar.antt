@@ -1,13 +1,17 @@
 -- What the words of the program say.
-use Rattle.std.specs.Prelude.{ℕ, nat_lt, ◌&&◌, Bool, true, false, if◌then◌else◌, List, [], ◌∷◌, codes, bytes_eq, Option, Some, None, unwrap_or, ℤ, pos}
+use Rattle.std.specs.Prelude.{ℕ, nat_lt, ◌&&◌, Bool, true, false, if◌then◌else◌, List, [], ◌∷◌, codes, bytes_eq, Option, Some, None, is_none, unwrap_or, ℤ, pos}
 use Rattle.std.specs.Option.{option_map, option_and_then}
 use Rattle.md_words.specs.declared.command.Command.{Command}
 use Rattle.md_words.specs.declared.command.Tool.{Tool}
 use Rattle.md_words.specs.declared.command.Tool.TheVariants as tool
+use Rattle.md_words.specs.declared.command.Mode.TheVariants as mode
 use Rattle.md_words.specs.declared.options.Options.{Options}
-use Rattle.md_words.specs.Words.{begins_with_dash, files_of, files_below_root}
+use Rattle.md_words.specs.declared.find.FindOptions.{FindOptions}
+use Rattle.md_words.specs.Words.{begins_with_dash, text_of, files_of, files_below_root}
+use Rattle.md_words.specs.Numbers.{number_in}
 use Rattle.md_words.specs.Offsets.{offset_of}
 use Rattle.md_words.specs.Options.{options_of}
+use Rattle.md_words.specs.Find.{find_options_of}
 
 -- whether the words can ask for a tool: `gen` makes 1 to 10,000 files
 abbrev pub is_offered : Tool → Bool
@@ -19,6 +23,18 @@ is_offered _ = true
 abbrev pub alone : Tool → List (List ℕ) → Option Tool
 alone tool [] = Some tool
 alone tool (word ∷ words) = None
+
+-- a search: without `-onlyin` in the root, and without `-literal` and `-interpret` of a text that is guessed
+abbrev pub found : FindOptions → Option (List ℕ) → Tool
+found options text = tool.Find options.zero options.count (unwrap_or options.scope []) options.name (unwrap_or options.mode mode.Guess) text
+
+-- a search by a name, by a text or by both, and none by neither
+abbrev pub search_by : FindOptions → Option (List ℕ) → Option Tool
+search_by options text = if is_none options.name && is_none text then None else Some (found options text)
+
+-- `{ "-0" | "-count" | "-onlyin" DIR | "-name" TEXT | "-literal" | "-interpret" } [ "--" ] { TEXT }`, where `-name` or a TEXT stands
+unfoldable pub find_of : List (List ℕ) → Option Tool
+find_of words = option_and_then (λ read. search_by read.0 (text_of read.1)) (find_options_of words)
 
 -- the marker is `(null)` where the options give none
 abbrev pub shown : Options → List (List ℕ) → Tool
@@ -38,14 +54,21 @@ import_of (word ∷ words) =
     else (if begins_with_dash word then None
     else option_map tool.Import (files_of (word ∷ words)))))
 
--- `"mdls"`, `"mdimport"` or `"live"`, and what follows
+-- `START N`: a number of 64 bits, and from 1 to 10,000 files
+unfoldable pub gen_of : List (List ℕ) → Option Tool
+gen_of (start ∷ count ∷ []) = option_and_then (λ s. option_map (λ n. tool.Gen s n) (number_in 1 10000 count)) (number_in 0 18446744073709551615 start)
+gen_of _ = None
+
+-- `"mdfind"`, `"mdls"`, `"mdimport"`, `"live"` or `"gen"`, and what follows
 unfoldable pub tool_of : List (List ℕ) → Option Tool
 tool_of [] = None
 tool_of (word ∷ words) =
-    if bytes_eq word (codes "mdls") then show_of words
+    if bytes_eq word (codes "mdfind") then find_of words
+    else (if bytes_eq word (codes "mdls") then show_of words
     else (if bytes_eq word (codes "mdimport") then import_of words
     else (if bytes_eq word (codes "live") then alone (tool.Live None) words
-    else None))
+    else (if bytes_eq word (codes "gen") then gen_of words
+    else None))))
 
 -- the tool of these words, at an offset
 unfoldable pub at_offset : ℤ → List (List ℕ) → Option Command

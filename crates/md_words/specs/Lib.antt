@@ -1,4 +1,6 @@
 pub mod Words
+pub mod Numbers
 pub mod Offsets
 pub mod Options
+pub mod Find
 pub mod Grammar

@@ -1,13 +1,21 @@
 -- The words of the program, and the files that they name.
-use Rattle.std.specs.Prelude.{ℕ, ◌==◌, Bool, false, if◌then◌else◌, List, [], ◌∷◌, length, map, String, string_bytes, Option, Some, None}
+use Rattle.std.specs.Prelude.{ℕ, ◌==◌, Bool, false, if◌then◌else◌, List, [], ◌∷◌, length, map, codes, String, string_bytes, Option, Some, None}
 use Rattle.std.specs.Global.{Global}
-use Rattle.std.specs.List.{list_any}
+use Rattle.std.specs.List.{list_any, join_by}
 use Rattle.std.specs.Option.{option_and_then}
 use Rattle.md_value.specs.Path.{is_bad, normal}
 
 -- the words as their bytes
 abbrev pub texts : List (String Global) → List (List ℕ)
 texts words = map (λ word. string_bytes word) words
+
+-- the words with a space between each two
+abbrev pub spaced : List (List ℕ) → List ℕ
+spaced words = join_by (λ word. word) (codes " ") words
+
+-- `{ TEXT }`, where there is one
+unfoldable pub text_of : List (List ℕ) → Option (List ℕ)
+text_of words = if length words == 0 then None else Some (spaced words)
 
 unfoldable pub begins_with_dash : List ℕ → Bool
 begins_with_dash [] = false

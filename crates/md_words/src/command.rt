@@ -17,15 +17,18 @@ pub struct Command {
 /// The tool that is asked for, and what it is told.
 #[derive(Drop)]
 pub enum Tool {
-    /// `mdfind`: the paths below `scope` whose name and content are searched for; no reader gives it yet.
+    /// `mdfind`: the paths of the files below `scope` that meet a test of their name, a search text, or both.
     Find {
         /// A zero byte after each path, in place of a line feed.
         zero: bool,
         /// The number of paths, in place of the paths.
         count: bool,
+        /// The folder that is searched, which may be the root.
         scope: Path,
+        /// What a file's name is to have in it, if that is asked.
         name: Option<Word>,
         mode: Mode,
+        /// The search text, if there is one.
         text: Option<Word>,
     },
     /// `mdls`: the attributes of files.
@@ -50,9 +53,10 @@ pub enum Tool {
     Live {
         workers: Option<u32>,
     },
-    /// `gen`: `count` files and a script that are made from `start`; no reader gives it yet.
+    /// `gen`: the run of a script over files, all of which are made from `start`.
     Gen {
         start: u64,
+        /// How many files are made, from 1 to 10,000.
         count: u32,
     },
 }

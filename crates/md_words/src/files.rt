@@ -7,8 +7,9 @@ use crate::word::first_word;
 use md_value::{Items, Path, PathError};
 use std::alloc::{AllocError, Global};
 
+/// The path that a word writes. It may be the root.
 #[tactic(auto, unfolding(crate::specs::Words::path_of))]
-fn path_of(alloc: Global, word: &str) -> Result<Option<Path>, AllocError>
+pub fn path_of(alloc: Global, word: &str) -> Result<Option<Path>, AllocError>
     ensures { IfOk result (λ path. path ≡ path_of word.now) }
 {
     match Path::read(alloc, word) {

@@ -3,6 +3,8 @@
 
 mod command;
 mod files;
+mod find;
+mod numbers;
 mod offset;
 mod options;
 mod read;

@@ -55,17 +55,23 @@ fn command_of(alloc: Global, words: &[String]) -> Result<Option<Command>, AllocE
 /// Reads the words of the program, without the program's own name:
 ///
 /// ```text
-/// words   = [ "-offset" OFF ] command
-/// OFF     = "Z" | ("+" | "-") HH [":"] MM
-/// command = "mdls" { lsword } [ "--" ] FILE { FILE }
-///         | "mdimport" ( "-L" | "-A" | [ "--" ] FILE { FILE } )
-///         | "live"
-/// lsword  = "-raw" | "-name" NAME | "-nullMarker" TEXT
+/// words    = [ "-offset" OFF ] command
+/// OFF      = "Z" | ("+" | "-") HH [":"] MM
+/// command  = "mdfind" { findword } [ "--" ] { TEXT }
+///          | "mdls" { lsword } [ "--" ] FILE { FILE }
+///          | "mdimport" ( "-L" | "-A" | [ "--" ] FILE { FILE } )
+///          | "live"
+///          | "gen" START N
+/// findword = "-0" | "-count" | "-onlyin" DIR | "-name" TEXT | "-literal" | "-interpret"
+/// lsword   = "-raw" | "-name" NAME | "-nullMarker" TEXT
 /// ```
 ///
-/// HH is 00 to 23 and MM 00 to 59; without `-offset` the offset is 0. `-raw` and `-nullMarker` stand at most once. The
-/// options end at `--` or at the first word that does not begin with `-`. NAME is read by `Name::read` and FILE by
-/// `Path::read`; a FILE of `mdls` is not the root. `Usage` comes exactly where the words are not in this grammar.
+/// HH is 00 to 23 and MM 00 to 59; without `-offset` the offset is 0. Each findword stands at most once, and `-literal` and
+/// `-interpret` exclude each other; `-raw` and `-nullMarker` stand at most once. The options end at `--` or at the first
+/// word that does not begin with `-`; before that, a word that begins with `-` and is no option is refused. `mdfind` needs
+/// `-name` or a TEXT, its TEXT words are joined by one space, and without `-onlyin` its scope is the root. NAME is read by
+/// `Name::read`, DIR and FILE by `Path::read`; a FILE of `mdls` is not the root. START is 0 to 18446744073709551615 and N
+/// is 1 to 10,000, in digits, of which the first may be zeros. `Usage` comes exactly where the words are not in this grammar.
 pub fn read_words(alloc: Global, words: &[String]) -> Result<Command, WordsError>
     ensures ok { IfOk result (λ command. command_of (texts words.now) ≡ Some command) }
     ensures offset { IfOk result (λ command. unsigned_abs command.offset < 1440) }

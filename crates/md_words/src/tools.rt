@@ -1,16 +1,22 @@
 // The tools, and what words tell them.
-ghost use Rattle.std.specs.Prelude.{◌≡◌, true, IfOk, IfSome, ◌∷◌, unwrap_or, codes};
+ghost use Rattle.std.specs.Prelude.{◌≡◌, true, IfOk, IfSome, [], ◌∷◌, unwrap_or, codes};
 ghost use Rattle.std.specs.Option.{option_map};
-ghost use Rattle.md_words.specs.Words.{texts, files_of};
+ghost use Rattle.md_words.specs.Words.{texts, text_of, files_of};
+ghost use Rattle.md_words.specs.declared.command.Mode.TheVariants.{Guess};
 ghost use Rattle.md_words.specs.declared.command.Tool.TheVariants.{Import};
-ghost use Rattle.md_words.specs.Grammar.{is_offered, alone, shown, show_of, import_of, tool_of};
+ghost use Rattle.md_words.specs.Grammar.{is_offered, alone, search_by, find_of, shown, show_of, import_of, gen_of, tool_of};
 
 use crate::files::{files_below_root, files_of};
+use crate::find::{FindOptions, find_options_of};
+use crate::numbers::number_in;
 use crate::options::{Options, options_of};
 use crate::word::{begins_with_dash, first_word};
-use crate::{Tool, Word};
+use crate::{Mode, Tool, Word};
 use md_value::{Items, Path};
 use std::alloc::{AllocError, Global};
+
+/// The most files that `gen` makes.
+const MOST_MADE: u64 = 10_000;
 
 fn alone(tool: Tool, words: &[String]) -> Option<Tool>
     ensures same { IfSome result (λ given. given ≡ tool) }
@@ -20,6 +26,61 @@ fn alone(tool: Tool, words: &[String]) -> Option<Tool>
         Some(_) => None,
         None => Some(tool),
     }
+}
+
+#[tactic(auto, unfolding(crate::specs::Words::text_of))]
+fn text_of(alloc: Global, words: &[String]) -> Result<Option<Word>, AllocError>
+    ensures { IfOk result (λ text. text ≡ text_of (texts words.now)) }
+{
+    if words.is_empty() {
+        return Ok(None);
+    }
+    Ok(Some(Word::spaced(alloc, words)?))
+}
+
+fn scope_of(alloc: Global, scope: Option<Path>) -> Path
+    ensures { result ≡ unwrap_or scope [] }
+{
+    match scope {
+        Some(scope) => scope,
+        None => Path::root(alloc),
+    }
+}
+
+fn search_by(alloc: Global, options: FindOptions, text: Option<Word>) -> Option<Tool>
+    ensures offered { IfSome result (λ given. is_offered given ≡ true) }
+    ensures value { result ≡ search_by options text }
+{
+    if options.name.is_none() && text.is_none() {
+        return None;
+    }
+    let FindOptions {
+        zero,
+        count,
+        scope,
+        name,
+        mode,
+    } = options;
+    Some(Tool::Find {
+        zero,
+        count,
+        scope: scope_of(alloc, scope),
+        name,
+        mode: mode.unwrap_or(Mode::Guess),
+        text,
+    })
+}
+
+#[tactic(auto, unfolding(crate::specs::Grammar::find_of))]
+fn find_of(alloc: Global, words: &[String]) -> Result<Option<Tool>, AllocError>
+    ensures offered { IfOk result (λ tool. IfSome tool (λ given. is_offered given ≡ true)) }
+    ensures value { IfOk result (λ tool. tool ≡ find_of (texts words.now)) }
+{
+    let Some((options, words)) = find_options_of(alloc, words)? else {
+        return Ok(None);
+    };
+    let text = text_of(alloc, words)?;
+    Ok(search_by(alloc, options, text))
 }
 
 fn marker_of(alloc: Global, marker: Option<Word>) -> Result<Word, AllocError>
@@ -92,6 +153,22 @@ fn import_of(alloc: Global, words: &[String]) -> Result<Option<Tool>, AllocError
     import_files(alloc, words)
 }
 
+#[tactic(auto, using(std::proofs::lemmas::Bool::Decides::nat_tests), unfolding(crate::specs::Grammar::gen_of))]
+fn gen_of(words: &[String]) -> Option<Tool>
+    ensures offered { IfSome result (λ given. is_offered given ≡ true) }
+    ensures value { result ≡ gen_of (texts words.now) }
+{
+    let [start, count] = words else {
+        return None;
+    };
+    let start = number_in(0, u64::MAX, start.as_str())?;
+    let count = number_in(1, MOST_MADE, count.as_str())?;
+    Some(Tool::Gen {
+        start,
+        count: count as u32,
+    })
+}
+
 /// The tool that the words ask for, by its name and what follows it: `None` where they are not in the grammar.
 #[tactic(auto, unfolding(crate::specs::Grammar::tool_of))]
 pub fn tool_of(alloc: Global, words: &[String]) -> Result<Option<Tool>, AllocError>
@@ -101,6 +178,9 @@ pub fn tool_of(alloc: Global, words: &[String]) -> Result<Option<Tool>, AllocErr
     let Some((word, rest)) = first_word(words) else {
         return Ok(None);
     };
+    if word == "mdfind" {
+        return find_of(alloc, rest);
+    }
     if word == "mdls" {
         return show_of(alloc, rest);
     }
@@ -109,6 +189,9 @@ pub fn tool_of(alloc: Global, words: &[String]) -> Result<Option<Tool>, AllocErr
     }
     if word == "live" {
         return Ok(alone(Tool::Live { workers: None }, rest));
+    }
+    if word == "gen" {
+        return Ok(gen_of(rest));
     }
     Ok(None)
 }

@@ -1,6 +1,6 @@
 // The words of the program.
 ghost use Rattle.std.specs.Prelude.{◌≡◌, [], ◌∷◌, ◌<◌, length, IfOk, MatchOption};
-ghost use Rattle.md_words.specs.Words.{texts, begins_with_dash};
+ghost use Rattle.md_words.specs.Words.{texts, spaced, begins_with_dash};
 
 use std::alloc::{AllocError, Global};
 use std::marker::Model;
@@ -25,6 +25,14 @@ impl Word {
         ensures { IfOk result (λ made. made ≡ text.now) }
     {
         let text = String::from_str(alloc, text)?;
+        Ok(Word { text })
+    }
+
+    /// The words with a space between each two, as one.
+    pub(crate) fn spaced(alloc: Global, words: &[String]) -> Result<Word, AllocError>
+        ensures { IfOk result (λ made. made ≡ spaced (texts words.now)) }
+    {
+        let text = words.join(alloc, " ")?;
         Ok(Word { text })
     }
 

@@ -1,0 +1,111 @@
+#!/usr/bin/env python3
+"""Times `mdfind` on folders that this makes.
+
+    speed.py            10,000 files: 55 % texts of 50 to 800 words, 20 % JSON, 15 % CSV, 10 % others; `mdfind budget`
+                        beside `cat` of all files, with the greatest memory beside the bytes of the files, and on one
+                        processor beside all
+    speed.py names      100,000 empty files; `mdfind -name plan` beside `find -iname '*plan*'`
+
+Each figure is the least of three runs of a whole process; the program is built before.
+"""
+import json
+import os
+import pathlib
+import random
+import subprocess
+import sys
+import tempfile
+import time
+
+TOP = pathlib.Path(__file__).resolve().parents[2]
+WORDS = "red blue tax plan note draft final rent total house garden letter month year price sum order list".split()
+RARE = 10_000  # one word in so many is `budget`
+
+
+def words(draw, count):
+    return " ".join("budget" if draw.randrange(RARE) == 0 else draw.choice(WORDS) for _ in range(count))
+
+
+def content(draw):
+    """A file's ending and content."""
+    kind = draw.randrange(100)
+    if kind < 55:
+        return ".txt", words(draw, draw.randrange(50, 801))
+    if kind < 75:
+        return ".json", json.dumps({"kMDItemTitle": words(draw, 4), "kMDItemStarRating": draw.randrange(6), "notes": words(draw, 200)})
+    if kind < 90:
+        rows = "".join(f"{draw.choice(WORDS)},{words(draw, 5)}\n" for _ in range(40))
+        return ".csv", "kMDItemKeywords,notes\n" + rows
+    return ".pdf", words(draw, 400)
+
+
+def fill(folder, count):
+    """Makes the files, and answers how many bytes they have."""
+    draw = random.Random(7)
+    size = 0
+    for number in range(count):
+        place = folder / f"d{number % 100}"
+        place.mkdir(parents=True, exist_ok=True)
+        ending, made = content(draw)
+        (place / f"f{number}{ending}").write_text(made)
+        size += len(made)
+    return size
+
+
+def fill_empty(folder, count):
+    draw = random.Random(7)
+    for number in range(count):
+        place = folder / f"d{number % 1000}"
+        place.mkdir(parents=True, exist_ok=True)
+        (place / f"{draw.choice(WORDS)}{number}.txt").touch()
+
+
+def run(command, folder):
+    """The seconds and the greatest memory in kilobytes of a process, and what it prints."""
+    begin = time.monotonic()
+    child = subprocess.Popen(command, cwd=folder, stdout=subprocess.PIPE)
+    printed = child.stdout.read()
+    _, status, usage = os.wait4(child.pid, 0)
+    if status:
+        sys.exit(f"{command} ended with {status}")
+    return time.monotonic() - begin, usage.ru_maxrss, printed
+
+
+def least(command, folder):
+    """The least seconds of three runs, with the memory and the print of the last."""
+    runs = [run(command, folder) for _ in range(3)]
+    return min(seconds for seconds, _, _ in runs), runs[-1][1], runs[-1][2]
+
+
+def search(program, folder):
+    size = fill(folder, 10_000)
+    cat = least(["sh", "-c", "cat */* > /dev/null"], folder)[0]
+    ours, memory, printed = least([program, "mdfind", "budget"], folder)
+    one = least(["taskset", "-c", "0", program, "mdfind", "budget"], folder)[0]
+    grep = least(["sh", "-c", "grep -rli budget . || true"], folder)
+    print(f"mdfind {ours:.2f} s, cat {cat:.2f} s: {ours / cat:.1f} times")
+    print(f"on one processor {one:.2f} s: {one / ours:.1f} times")
+    print(f"memory {memory / 1000:.0f} MB, files {size / 1e6:.0f} MB: {memory * 1024 / size:.1f} times")
+    print(f"hits {printed.count(10)}, files that grep finds {grep[2].count(10)}, in {grep[0]:.2f} s")
+
+
+def search_names(program, folder):
+    fill_empty(folder, 100_000)
+    find = least(["find", ".", "-type", "f", "-iname", "*plan*"], folder)
+    ours = least([program, "mdfind", "-name", "plan"], folder)
+    print(f"mdfind -name {ours[0]:.2f} s, {ours[1] / 1000:.0f} MB; find {find[0]:.2f} s")
+    print(f"hits {ours[2].count(10)} and {find[2].count(10)}")
+
+
+def main():
+    subprocess.run([TOP / "mdserve", "live"], input=b"", check=True)
+    program = TOP / "crates" / "mdserve" / "out" / "mdserve"
+    with tempfile.TemporaryDirectory() as work:
+        folder = pathlib.Path(work)
+        if sys.argv[1:] == ["names"]:
+            search_names(program, folder)
+        else:
+            search(program, folder)
+
+
+main()

@@ -1,0 +1,80 @@
+-- What a live query has given is what its client holds.
+use Rattle.std.proofs.Common.{◌≡◌, ℕ, List, [], ◌∷◌, fold, refl, sym, ◌∙◌, ap, subst, Some, None}
+use Rattle.std.specs.Option.{option_map}
+use Rattle.std.proofs.lemmas.List.Sorted.{IsPermutation-refl}
+use Rattle.md_world.specs.Tables.{IsTable}
+use Rattle.md_world.specs.Holding.{with_rows, without_paths}
+use Rattle.md_world.specs.Orders.{IsInOrder, in_order}
+use Rattle.md_world.specs.declared.order.SortKey.{SortKey}
+use Rattle.md_world.specs.declared.Row.{Row}
+use Rattle.md_world.specs.declared.TheConstants.Limits.{STANDARD}
+use Rattle.md_world.proofs.Tables.{table_with_rows, table_without_paths, with_rows_append}
+use Rattle.md_machine.specs.declared.Event.{Event}
+use Rattle.md_machine.specs.declared.Reply.{Reply}
+use Rattle.md_machine.specs.declared.Reply.TheVariants as reply
+use Rattle.md_machine.specs.States.{Query, query_at}
+use Rattle.md_machine.specs.Runs.{run, entries, told, taken_in, held}
+use Rattle.md_machine.proofs.Law.{held_is_answer}
+use Rattle.md_machine.proofs.Queries.{key_of, found_key, own_place}
+use Rattle.md_hub.specs.Given.{given_by}
+use Rattle.md_hub.specs.declared.held.Held.{Held}
+use Rattle.md_notice.specs.Following.{Followed, Follows}
+use Rattle.md_sort.proofs.Alone.{is_there, is_alone, table_differ}
+use Rattle.md_render.specs.Texts.{held_text, follower_text}
+use Rattle.md_live.specs.Texts.{shown_text}
+use Rattle.md_live.specs.Telling.{followed, followed_in}
+
+taken_table : (rows : List Row) (r : Reply) → IsTable rows → IsTable (taken_in rows r)
+taken_table rows (reply.Progress part) h = table_with_rows rows part.hits h
+taken_table rows (reply.Finished part base) h = table_with_rows rows part.hits h
+taken_table rows (reply.Notice notice) h =
+    let less = table_without_paths rows notice.removed h in
+    table_with_rows _ notice.added (table_with_rows (without_paths rows notice.removed) notice.changed less)
+taken_table rows _ h = h
+
+-- what is held is a table, whatever the replies
+held_table : (rows : List Row) (replies : List Reply) → IsTable rows → IsTable (fold taken_in rows replies)
+held_table rows [] h = h
+held_table rows (r ∷ replies) h = held_table (taken_in rows r) replies (taken_table rows r h)
+
+module _ (events : List Event) (client number : ℕ) where
+  -- the hits given, set one after the other, are what the client holds
+  given_held : (q : Query) → query_at (run STANDARD events).last.queries client number ≡ Some q
+      → with_rows [] (given_by q).rows ≡ held (told client number (entries STANDARD events))
+  given_held q found =
+      let queries = (run STANDARD events).last.queries in
+      let all = entries STANDARD events in
+      let hits = (given_by q).rows in
+      let key = key_of client number q (found_key queries client number q found) in
+      let own : held (told q.client q.number all) ≡ hits = held_is_answer STANDARD events q (own_place queries client number q found) in
+      let is : held (told client number all) ≡ hits = subst (λ c. held (told c number all) ≡ hits) key.0 (subst (λ n. held (told q.client n all) ≡ hits) key.1 own) in
+      subst (λ rows. with_rows [] rows ≡ held (told client number all)) is
+      (with_rows_append [] (held (told client number all)) (held_table [] (told client number all) tt))
+
+  -- what is printed of the hits given is what is printed of what the client holds
+  pub shown_so : follower_text client number (followed_in (run STANDARD events).last client number)
+      ≡ shown_text (entries STANDARD events) client number (query_at (run STANDARD events).last.queries client number)
+  shown_so =
+      let queries = (run STANDARD events).last.queries in
+      let all = entries STANDARD events in
+      elim (query_at queries client number) as
+      (λ o. query_at queries client number ≡ o → follower_text client number (option_map followed (option_map given_by o)) ≡ shown_text all client number o) [
+        | None ↦ λ found. refl
+        | Some q ↦ λ found. ap (λ rows. held_text client number q.base (in_order q.spec.order rows)) (given_held q found)
+      ] refl
+
+abbrev following : List SortKey → List Row → ℕ → Followed
+following order rows version = record { order = order; rows = rows; version = version }
+
+-- a follower that took the hits given holds them in order
+pub follows_so : (given : Held) (old new : Followed) → old.order ≡ given.order → old.rows ≡ [] → old.version ≡ given.version
+    → Follows (λ table. with_rows table given.rows) old new → new.order ≡ old.order → new.version ≡ old.version → new ≡ followed given
+follows_so given old new order rows version follows same_order same_version =
+    let table = with_rows [] given.rows in
+    let keys : new.order ≡ given.order = same_order ∙ order in
+    let none : IsInOrder old.order [] old.rows = subst (λ held. IsInOrder old.order [] held) (sym rows) (record { same_rows = IsPermutation-refl []; ascends = tt }) in
+    let shown : IsInOrder given.order table new.rows = subst (λ (k : List SortKey). IsInOrder k table new.rows) keys (follows [] tt none) in
+    let there = is_there given.order table (table_differ table (table_with_rows [] given.rows tt)) in
+    let ordered : new.rows ≡ in_order given.order table = is_alone given.order table new.rows (in_order given.order table) shown there in
+    let numbered : new.version ≡ given.version = same_version ∙ version in
+    ap (λ keys. following keys new.rows new.version) keys ∙ ap (λ rows. following given.order rows new.version) ordered ∙ ap (following given.order (in_order given.order table)) numbered

@@ -1,0 +1,29 @@
+use Rattle.std.proofs.Common.{◌∷◌, ◌++◌, [], ◌∙◌, take, sym, ap, arith, rules, FitsSigned, w32}
+use Rattle.std.proofs.lemmas.Int.{to_z-of_z}
+use Rattle.std.proofs.lemmas.List.{take_more}
+use Rattle.md_files.proofs.Turns.{in_turn_more}
+use Rattle.md_script.specs.declared.script.Line.{Line}
+use Rattle.md_live.specs.Given.{IsGiven, AreGiven}
+use Rattle.md_live.proofs.given.give_all.Goals as goal
+
+pub loop-line-preserved : goal.loop-line-preserved
+loop-line-preserved g c =
+    let fits : FitsSigned w32 c.args.offset = search rules in
+    let l = c.loop-line in
+    let offset = c.args.offset in
+    let told = g.T.Tree.content c.args.tree.now in
+    let before = g.T.Tree.faults c.args.tree.now in
+    let between = g.T.Tree.faults l.tree in
+    let now = g.T.Tree.faults c.give.new.tree in
+    let lines = c.args.lines.now in
+    let line = c.line-item.result in
+    let given = c.in_ok-give.field-0 in
+    let so : AreGiven offset told before between (take l.line-index lines) l.givens.items = simp to_z-of_z at l.invariant.given in
+    let asks : IsGiven offset told between now line given = rw (sym l.invariant.content) (simp to_z-of_z at c.in_ok-give.ensures.given) in
+    let fronts = take_more lines l.line-index line c.loop-line-test.true ∙ ap (λ (x : Line). take l.line-index lines ++ x ∷ []) (sym c.line-item.is) in
+    let more = in_turn_more (IsGiven offset told) before between now (take l.line-index lines) l.givens.items line given so asks in
+    record {
+      content = c.in_ok-give.ensures.content ∙ l.invariant.content;
+      later = omega (arith, l.invariant.later, c.in_ok-give.ensures.later);
+      given = simp to_z-of_z (rw (fronts, c.in_ok-push.ensures.items) more);
+    }

@@ -1,0 +1,45 @@
+// What the tree gives to the `import` lines of a script.
+ghost use Rattle.std.specs.Prelude.{◌≡◌, ◌≤◌, IfOk, Some};
+ghost use Rattle.md_files.specs.Answers.{Gives, IsAsked};
+ghost use Rattle.md_live.specs.Given.{IsGiven, AreGiven};
+
+use md_files::{Asked, ask_file};
+use md_script::{Line, What};
+use md_source::Tree;
+use std::alloc::{AllocError, Global};
+
+// What the tree gives to a line: the file that it imports.
+fn give<T: Tree>(
+    alloc: Global,
+    tree: &mut T,
+    offset: i32,
+    line: &Line,
+) -> Result<Option<Asked>, AllocError>
+    ensures given { IfOk result (λ given. IsGiven offset (T.content tree.old) (T.faults tree.old) (T.faults tree.new) line.now given) }
+    ensures later { T.faults tree.old ≤ T.faults tree.new }
+    ensures content { T.content tree.new ≡ T.content tree.old }
+{
+    match &line.what {
+        What::Import { path } => Ok(Some(ask_file(alloc, tree, path, offset)?)),
+        _ => Ok(None),
+    }
+}
+
+/// What the tree gives to the lines, in turn: the files that they import. A date alone is the first second of that day at
+/// `offset`, in minutes by which local time is ahead of UTC.
+pub fn give_all<T: Tree>(
+    alloc: Global,
+    tree: &mut T,
+    offset: i32,
+    lines: &[Line],
+) -> Result<Vec<Option<Asked>>, AllocError>
+    ensures given { IfOk result (λ givens. AreGiven offset (T.content tree.old) (T.faults tree.old) (T.faults tree.new) lines.now givens.items) }
+    ensures later { T.faults tree.old ≤ T.faults tree.new }
+    ensures content { T.content tree.new ≡ T.content tree.old }
+{
+    let mut givens = Vec::new(alloc);
+    for line in lines {
+        givens.push(give(alloc, tree, offset, line)?)?;
+    }
+    Ok(givens)
+}

@@ -1,0 +1,66 @@
+// The run of a script.
+ghost use Rattle.std.specs.Prelude.{◌≡◌, ◌≤◌, true, false, IfOk, IfSome, length};
+ghost use Rattle.md_source.specs.Causes.{Rose};
+ghost use Rattle.md_value.specs.Values.{IsMoment};
+ghost use Rattle.md_files.specs.Reports.{EndHasCause};
+ghost use Rattle.md_live.specs.Given.{tells_imports};
+ghost use Rattle.md_live.specs.Actions.{actions_of};
+ghost use Rattle.md_live.specs.Reports.{Runs, report_of_actions};
+
+use crate::given::give_all;
+use crate::session::{Session, Setting};
+use md_files::{Asked, End, Report};
+use md_script::Line;
+use md_source::Tree;
+use std::alloc::{AllocError, Global};
+
+// Runs the lines, with what was given to each.
+fn run_given(
+    alloc: Global,
+    setting: &Setting,
+    lines: &[Line],
+    givens: Vec<Option<Asked>>,
+) -> Result<Report, AllocError>
+    requires few { length lines.now ≤ 100_000 }
+    requires moment { IsMoment setting.now.moment }
+    ensures { IfOk result (λ report. report ≡ report_of_actions (actions_of setting.now.moment setting.now.offset lines.now givens.items)) }
+{
+    let mut session = Session::new(alloc);
+    for (line, given) in lines.iter().zip(givens) {
+        session.line(alloc, setting, line, given)?;
+    }
+    Ok(session.into_report())
+}
+
+/// Runs these lines in order over a server of their own, from its opening state. `now` is in seconds since 1970 in UTC,
+/// and `offset` in minutes by which local time is ahead of UTC.
+///
+/// The files of all `import` lines are read from the tree first, in the order of the script. A file with a fault, one that
+/// is absent and one that could not be read get no row; each has a line on err. Fails only where memory runs out.
+pub fn run<T: Tree>(
+    alloc: Global,
+    tree: &mut T,
+    now: i64,
+    offset: i32,
+    lines: &[Line],
+) -> Result<Report, AllocError>
+    requires few { length lines.now ≤ 100_000 }
+    requires moment { IsMoment now }
+    ensures runs { IfOk result (λ report. Runs (T.content tree.old) (T.faults tree.old) (T.faults tree.new) now offset lines.now report) }
+    ensures cause { IfOk result (λ report. EndHasCause (T.faults tree.old) (T.faults tree.new) report.end) }
+    ensures later { T.faults tree.old ≤ T.faults tree.new }
+    ensures content { T.content tree.new ≡ T.content tree.old }
+
+    // Where the content is told.
+    ensures absent { IfOk result (λ report. IfSome (T.content tree.old) (λ content.
+        report.end ≡ End.Absent → tells_imports content lines.now ≡ false)) }
+    ensures complete { IfOk result (λ report. IfSome (T.content tree.old) (λ content.
+        tells_imports content lines.now ≡ true → ¬ (Rose (T.faults tree.old) (T.faults tree.new)) → report.end ≡ End.Ok)) }
+{
+    let givens = give_all(alloc, tree, offset, lines)?;
+    let setting = Setting {
+        moment: now,
+        offset,
+    };
+    run_given(alloc, &setting, lines, givens)
+}
