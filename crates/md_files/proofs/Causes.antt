@@ -10,17 +10,17 @@ use Rattle.md_source.specs.Causes.{Rose}
 use Rattle.md_source.specs.Tree.{Content, File, file_at}
 use Rattle.md_source.specs.declared.tree.Entry.{Entry}
 use Rattle.imp_kind.specs.Imports.{import}
-use Rattle.md_files.specs.Answers.{Answer, AreAsked, IsCounted, of_import, outcome, failures}
+use Rattle.md_files.specs.Answers.{Answer, IsRead, AreAsked, IsCounted, of_import, outcome, failures}
 use Rattle.md_files.specs.Answers.Answer.{given, absent, failed}
 use Rattle.md_files.specs.Folders.{Found, IsFound, AreFound, AreRead, found_failures, all_failures}
 use Rattle.md_files.specs.Folders.Found.{file, unfound, folder, unlisted, nothing}
-use Rattle.md_files.specs.Findings.{asked_findings, read_findings, found_findings, all_findings, is_failed, is_absent}
+use Rattle.md_files.specs.Findings.{asked_findings, read_findings, found_findings, all_findings, is_failed, is_absent, end_of}
 use Rattle.md_files.specs.Findings.Finding.{named, listed}
 use Rattle.md_files.specs.Reports.{Report, Shows, Imports, EndHasCause, tells_file, tells, tells_files, tells_all}
 use Rattle.md_files.specs.declared.report.End.{End}
 use Rattle.md_files.specs.declared.report.End.TheVariants as ended
 use Rattle.md_files.proofs.Additions.{end_by}
-use Rattle.md_files.proofs.Counting.{first_failures, are_asked_counted, are_found_counted}
+use Rattle.md_files.proofs.Counting.{first_failures, read_counted, turn_counted, are_asked_counted, are_found_counted}
 
 -- whether there are some
 record Tells (some : Bool) (count : ℕ) : Type 0 where
@@ -220,3 +220,16 @@ module _ (before now : ℕ) (offset : ℤ) (paths : List PathBytes) (report : Re
       → IfSome told (λ content. tells_all content paths ≡ true → ¬ (Rose before now) → report.end ≡ ended.Ok)
   imports_complete None imports = tt
   imports_complete (Some content) imports = λ told quiet. complete_end before now report.end (tells_all content paths) (imports_cause (Some content) imports) (imports_untold content imports) told quiet
+
+module _ (offset : ℤ) (entries : List Entry) (answers : List Answer) where
+  -- the files of a listing that failed are counted
+  pub read_cause : (told : Option Content) (before now : ℕ) → AreRead told before now entries answers → EndHasCause before now (end_of (read_findings offset entries answers))
+  read_cause told before now asked =
+      cause_by before now (failures answers) (list_any is_failed (read_findings offset entries answers)) (list_any is_absent (read_findings offset entries answers))
+      (turn_counted (IsRead told) (read_counted told) before now entries answers asked) (read_tells offset told before now entries answers asked)
+
+  -- and none of them is a named path
+  pub read_there : end_of (read_findings offset entries answers) ≡ ended.Absent → ⊥
+  read_there is =
+      not_true _ (there_listed entries answers offset)
+      (is_absent_end (list_any is_failed (read_findings offset entries answers)) (list_any is_absent (read_findings offset entries answers)) is)

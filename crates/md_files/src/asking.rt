@@ -25,8 +25,10 @@ pub enum Asked {
     Failed,
 }
 
-// The first bytes of a file, or none with no call where no importer looks at them.
-fn read_front<T: Tree>(alloc: Global, tree: &mut T, path: &Path) -> Result<Vec<u8>, ReadEnd>
+/// The first bytes of a file, at most 16,777,217 of them, or none with no call where no importer looks at them.
+///
+/// `Absent` comes where the tree has no file of this path, `Failed` where its call failed.
+pub fn read_front<T: Tree>(alloc: Global, tree: &mut T, path: &Path) -> Result<Vec<u8>, ReadEnd>
     ensures front { IfOk result (λ bytes. IsFront (T.content tree.old) path.now bytes.items) }
     ensures absent { IsErrOf result ReadEnd.Absent → HasNoFile (T.content tree.old) path.now }
     ensures read_absent { IsErrOf result ReadEnd.Absent → is_read path.now ≡ true }

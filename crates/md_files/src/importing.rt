@@ -32,8 +32,8 @@ fn push_count(
     report.push_out(line.as_str())
 }
 
-// The entries of files of distinct paths, ascending by path. Takes no memory.
-fn in_path_order(mut entries: Vec<Entry>) -> Vec<Entry>
+/// The entries of files of distinct paths, ascending by path. Takes no memory.
+pub fn in_path_order(mut entries: Vec<Entry>) -> Vec<Entry>
     requires { AllPairs (λ entry other. entry.path ≢ other.path) entries.items }
     ensures same { IsPermutation entries.items result.items }
     ensures ordered { AllPairs (λ entry other. is_before entry.path other.path ≡ true) result.items }

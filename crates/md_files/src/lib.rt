@@ -9,8 +9,8 @@ mod report;
 mod showing;
 mod tables;
 
-pub use asking::{Asked, ask_file, imported};
-pub use importing::import;
+pub use asking::{Asked, ask_file, imported, read_front};
+pub use importing::{import, in_path_order};
 pub use report::{End, Report};
 pub use showing::show;
 pub use tables::{attributes, importers};

@@ -117,8 +117,8 @@ impl Report {
     }
 
     /// Adds what became of a file of a listing, but for the attributes that it gives. One that is absent by now is passed
-    /// over.
-    pub(crate) fn add_listed(
+    /// over. Fails only where memory runs out.
+    pub fn add_listed(
         &mut self,
         alloc: Global,
         path: &Path,
@@ -133,8 +133,8 @@ impl Report {
         }
     }
 
-    /// Adds a folder that could not be listed.
-    pub(crate) fn add_unlisted(&mut self, alloc: Global, path: &Path) -> Result<(), AllocError>
+    /// Adds a folder that could not be listed. Fails only where memory runs out.
+    pub fn add_unlisted(&mut self, alloc: Global, path: &Path) -> Result<(), AllocError>
         ensures { OnOk result (self.new ≡ noted self.old (no_listing path.now)) }
     {
         self.add_failure(alloc, path, Failure::NotListed, End::Failed)

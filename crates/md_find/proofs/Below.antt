@@ -1,0 +1,24 @@
+-- What is found below a folder.
+use Rattle.std.proofs.Common.{◌≡◌, ◌<◌, ℕ, List, length, sym, subst, Option, Some, None, IfSome, IsPermutation}
+use Rattle.std.proofs.lemmas.List.Sorted.{length_permutation}
+use Rattle.md_value.specs.Values.{PathBytes}
+use Rattle.md_source.specs.Tree.{Content, entries_below}
+use Rattle.md_source.specs.declared.tree.Entry.{Entry}
+use Rattle.md_machine.specs.declared.Spec.{Spec}
+use Rattle.md_find.specs.declared.finding.Search.{Search}
+use Rattle.md_find.specs.declared.finding.Output.{Output}
+use Rattle.md_find.specs.declared.finding.Found.{Found}
+use Rattle.md_find.specs.Folders.{most_files, HasTooMany}
+use Rattle.md_find.specs.Finds.{query_of, form_out, Finds, asks, FindsBelow}
+
+-- a listing that is too long is that of a folder with too many files
+pub too_many : (told : Option Content) (path : PathBytes) (entries : List Entry) → IfSome told (λ content. IsPermutation (entries_below content.files path) entries) → most_files < length entries → HasTooMany told path
+too_many None path entries known many = tt
+too_many (Some content) path entries known many = subst (λ n. most_files < n) (length_permutation (entries_below content.files path) entries known) many
+
+-- what is found by the query of a search
+pub finds_below : (told : Option Content) (before now : ℕ) (search : Search) (query : Spec) (output : Output) → query ≡ query_of search → form_out search ≡ None
+    → (found : Found) → FindsBelow told before now query output found → Finds told before now search output found
+finds_below told before now search query output is none found below =
+    let finds : FindsBelow told before now (query_of search) output found = subst (λ q. FindsBelow told before now q output found) is below in
+    subst (Finds told before now search output) (sym finds.is) (asks finds.folder none finds.held)

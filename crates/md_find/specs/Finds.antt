@@ -1,0 +1,93 @@
+-- What a search gives.
+use Rattle.std.specs.Prelude.{◌≡◌, ℕ, List, [], ◌∷◌, ◌++◌, length, codes, Option, Some, None}
+use Rattle.std.specs.Fmt.{decimal}
+use Rattle.std.specs.List.{flat_map}
+use Rattle.std.specs.Option.{option_map}
+use Rattle.md_value.specs.Values.{PathBytes}
+use Rattle.md_source.specs.Tree.{Content}
+use Rattle.md_source.specs.declared.tree.Entry.{Entry}
+use Rattle.md_world.specs.Differences.{paths_of}
+use Rattle.md_match.specs.Forms.{first_out_of_range, capped}
+use Rattle.md_machine.specs.declared.Spec.{Spec}
+use Rattle.md_machine.specs.declared.TheConstants.Batch.{NONE}
+use Rattle.md_machine.specs.Answers as machine
+use Rattle.md_machine.specs.Answers.{answer}
+use Rattle.md_files.specs.Answers.{Answer}
+use Rattle.md_files.specs.Folders.{AreRead}
+use Rattle.md_files.specs.Findings.{read_findings}
+use Rattle.md_files.specs.Findings.Finding.{named, no_listing}
+use Rattle.md_files.specs.Reports.{Report, report_of, EndHasCause}
+use Rattle.md_files.specs.declared.asking.Asked.TheVariants as asked
+use Rattle.md_files.specs.declared.report.End.{End}
+use Rattle.md_find.specs.declared.finding.Search.{Search}
+use Rattle.md_find.specs.declared.finding.Output.{Output}
+use Rattle.md_find.specs.declared.finding.Output.TheVariants as output
+use Rattle.md_find.specs.declared.finding.Found.{Found}
+use Rattle.md_find.specs.declared.finding.Found.TheVariants as found
+use Rattle.md_find.specs.Files.{table_of}
+use Rattle.md_find.specs.Folders.{Folder, files, unlisted, nothing, full, IsHeld}
+
+-- the query of a search: all hits in one part
+abbrev pub query_of : Search → Spec
+query_of search = machine.asked search.expr search.moment search.offset search.scope [] NONE
+
+-- the paths of the files that a query answers
+abbrev pub hits : Spec → List Entry → List Answer → List PathBytes
+hits query entries answers = paths_of (answer query (table_of query.offset entries answers))
+
+-- a path with this end behind it
+abbrev pub ended : List ℕ → PathBytes → List ℕ
+ended end path = path ++ end
+
+-- what is printed of these paths
+abbrev pub found_text : Output → List PathBytes → List ℕ
+found_text output.Lines paths = flat_map (ended (codes "\n")) paths
+found_text output.Zeros paths = flat_map (ended (0 ∷ [])) paths
+found_text output.Count paths = decimal (length paths) ++ codes "\n"
+
+-- what is found among the files of a folder
+abbrev pub found_among : Spec → Output → List Entry → List Answer → Report
+found_among query output entries answers = report_of (found_text output (hits query entries answers)) (read_findings query.offset entries answers)
+
+-- what a query gives on a folder
+abbrev pub found_in : Spec → Output → Folder → Found
+found_in query output (files entries answers) = found.Report (found_among query output entries answers)
+found_in query output unlisted = found.Report (report_of (found_text output []) (no_listing query.scope ∷ []))
+found_in query output nothing = found.Report (report_of (found_text output []) (named query.scope asked.Absent ∷ []))
+found_in query output full = found.Full
+
+-- the number of the first form of time of a search that is out of range
+abbrev pub form_out : Search → Option ℕ
+form_out search = option_map capped (first_out_of_range search.moment search.offset search.expr)
+
+-- What a search gives: a form of time that is out of range, where the tree is not asked, or what its query gives on its folder.
+pub data Finds (told : Option Content) (before now : ℕ) (search : Search) (output : Output) : Found → Type 0 where
+  misdates : (which : ℕ) → form_out search ≡ Some which → now ≡ before → Finds told before now search output (found.OutOfRange which)
+  asks : (folder : Folder) → form_out search ≡ None → IsHeld told before now search.scope folder → Finds told before now search output (found_in (query_of search) output folder)
+
+-- the form of time that is told to be out of range
+abbrev pub form_told : Found → Option ℕ
+form_told (found.OutOfRange which) = Some which
+form_told _ = None
+
+-- the count of faults rose where some asking failed, and stands where none did
+abbrev pub HasCause : ℕ → ℕ → Found → Type 0
+HasCause before now (found.Report report) = EndHasCause before now report.end
+HasCause before now _ = now ≡ before
+
+-- it is a report that ends so
+abbrev pub EndsBy : Found → End → Type 0
+EndsBy (found.Report report) end = report.end ≡ end
+EndsBy _ end = ⊥
+
+-- the files of a listing were asked for in turn, and this is found among them
+pub record FindsAmong (told : Option Content) (before now : ℕ) (query : Spec) (output : Output) (entries : List Entry) (report : Report) : Type 0 where
+  pub answers : List Answer
+  pub asked : AreRead told before now entries answers
+  pub is : report ≡ found_among query output entries answers
+
+-- the query's folder was asked for, and this is found below it
+pub record FindsBelow (told : Option Content) (before now : ℕ) (query : Spec) (output : Output) (found : Found) : Type 0 where
+  pub folder : Folder
+  pub held : IsHeld told before now query.scope folder
+  pub is : found ≡ found_in query output folder

@@ -1,0 +1,5 @@
+pub mod Searches
+pub mod Folders
+pub mod Files
+pub mod Loading
+pub mod Finds

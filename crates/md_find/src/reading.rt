@@ -1,0 +1,59 @@
+// The files below a folder, read one after the other.
+ghost use Rattle.std.specs.Prelude.{◌≡◌, ◌≤◌, IfOk};
+ghost use Rattle.md_files.specs.Answers.{IsRead};
+ghost use Rattle.md_files.specs.Folders.{AreRead};
+ghost use Rattle.md_find.specs.Files.{front_answer, entries_of, answers_of};
+
+use md_files::read_front;
+use md_source::{Entry, ReadEnd, Tree};
+use std::alloc::{AllocError, Global};
+
+/// What a tree gives of a file.
+#[derive(Drop)]
+pub enum Front {
+    /// The first bytes, as many as are read.
+    Bytes(Vec<u8>),
+    /// There is no file of this path.
+    Absent,
+    /// The tree failed.
+    Failed,
+}
+
+/// A file of a listing, and what the tree gives of it.
+#[derive(Drop)]
+pub struct ReadFile {
+    pub entry: Entry,
+    pub front: Front,
+}
+
+fn read_file<T: Tree>(alloc: Global, tree: &mut T, entry: &Entry) -> Result<Front, AllocError>
+    ensures read { IfOk result (λ front. IsRead (T.content tree.old) (T.faults tree.old) (T.faults tree.new) entry.now (front_answer entry.now front)) }
+    ensures later { T.faults tree.old ≤ T.faults tree.new }
+    ensures content { T.content tree.new ≡ T.content tree.old }
+{
+    match read_front(alloc, tree, &entry.path) {
+        Ok(bytes) => Ok(Front::Bytes(bytes)),
+        Err(ReadEnd::Absent) => Ok(Front::Absent),
+        Err(ReadEnd::Failed) => Ok(Front::Failed),
+        Err(ReadEnd::Memory) => Err(AllocError),
+    }
+}
+
+/// Asks a tree for the bytes of these files in turn. Fails only where memory runs out.
+pub fn read_files<T: Tree>(
+    alloc: Global,
+    tree: &mut T,
+    entries: Vec<Entry>,
+) -> Result<Vec<ReadFile>, AllocError>
+    ensures entries { IfOk result (λ files. entries_of files.items ≡ entries.items) }
+    ensures read { IfOk result (λ files. AreRead (T.content tree.old) (T.faults tree.old) (T.faults tree.new) entries.items (answers_of files.items)) }
+    ensures later { T.faults tree.old ≤ T.faults tree.new }
+    ensures content { T.content tree.new ≡ T.content tree.old }
+{
+    let mut files = Vec::new(alloc);
+    for entry in entries {
+        let front = read_file(alloc, tree, &entry)?;
+        files.push(ReadFile { entry, front })?;
+    }
+    Ok(files)
+}
