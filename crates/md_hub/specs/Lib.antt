@@ -2,6 +2,7 @@ pub mod Asked
 pub mod Places
 pub mod States
 pub mod Verdicts
+pub mod Stamps
 pub mod Stepping
 pub mod Sound
 pub mod Edits

@@ -9,9 +9,10 @@ ghost use Rattle.md_hub.specs.Given.{given_by};
 ghost use Rattle.md_hub.specs.Verdicts.{verdict_of};
 ghost use Rattle.md_hub.specs.Stepping.{IsStep};
 
-use crate::desk::{self, LastCommit, OpenTicket};
+use crate::desk::{self, OpenTicket};
 use crate::queries::{self, Call};
 use crate::query::LiveQuery;
+use crate::stamps::{self, Stamps};
 use crate::{Held, edits};
 use md_machine::{Event, Reply, Spec};
 use md_query::{Ask, copy_rows};
@@ -37,12 +38,13 @@ pub struct Hub {
     table: Vec<Row>,
     drawn: u32,
     tickets: Vec<OpenTicket>,
-    stamps: Vec<LastCommit>,
+    stamps: Stamps,
     queries: Vec<LiveQuery>,
 }
 
 impl Model for Hub {
     ghost use Rattle.md_machine.specs.States.{State};
+    ghost use Rattle.md_hub.specs.Stamps.{stamps_of};
     ghost use Rattle.md_hub.specs.States.{state_of};
     ghost use Rattle.md_hub.specs.Sound.{IsSound};
 
@@ -53,9 +55,9 @@ impl Model for Hub {
 
     ghost coded = { Prim.hlevel (codes, expr.the_row.coded) };
 
-    ghost view = { λ h. state_of h.limits h.version h.table.items h.drawn h.tickets.items h.stamps.items h.queries.items };
+    ghost view = { λ h. state_of h.limits h.version h.table.items h.drawn h.tickets.items (stamps_of h.stamps.entries) h.queries.items };
 
-    ghost invariant = { λ h. IsSound h.limits (state_of h.limits h.version h.table.items h.drawn h.tickets.items h.stamps.items h.queries.items) };
+    ghost invariant = { λ h. IsSound h.limits (state_of h.limits h.version h.table.items h.drawn h.tickets.items (stamps_of h.stamps.entries) h.queries.items) };
 }
 
 impl Hub {
@@ -69,7 +71,7 @@ impl Hub {
             table: Vec::new(alloc),
             drawn: 0,
             tickets: Vec::new(alloc),
-            stamps: Vec::new(alloc),
+            stamps: Stamps::new(alloc),
             queries: Vec::new(alloc),
         }
     }
@@ -95,7 +97,7 @@ impl Hub {
     {
         match desk::ticket_at(&self.tickets, number) {
             None => Verdict::NoTicket,
-            Some(ticket) => match desk::last_ticket(&self.stamps, ticket.path()) {
+            Some(ticket) => match stamps::last_ticket(&self.stamps, ticket.key()) {
                 None => {
                     if self.stamps.len() < self.limits.paths as usize {
                         Verdict::Fits
@@ -126,10 +128,10 @@ impl Hub {
             None => Ok(Reply::NoTicket),
             Some(ticket) => {
                 let path = ticket.path();
-                let stamp = desk::stamp_of(alloc, path, number)?;
+                let key = ticket.key().copy(alloc)?;
                 self.stamps.reserve(1)?;
                 edits::apply(alloc, &mut self.table, path, change)?;
-                desk::set_stamp(&mut self.stamps, stamp);
+                stamps::set(&mut self.stamps, key, number);
                 desk::close(&mut self.tickets, number);
                 self.version += 1;
                 Ok(Reply::Committed(self.version))

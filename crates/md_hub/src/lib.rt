@@ -8,6 +8,7 @@ mod hub;
 mod queries;
 mod query;
 mod runs;
+mod stamps;
 
 pub use held::Held;
 pub use hub::Hub;

@@ -1,5 +1,5 @@
 -- What a live query has given is what its client holds.
-use Rattle.std.proofs.Common.{◌≡◌, ℕ, List, [], ◌∷◌, fold, refl, sym, ◌∙◌, ap, subst, Some, None}
+use Rattle.std.proofs.Common.{◌≡◌, ℕ, List, [], ◌∷◌, length, fold, refl, sym, ◌∙◌, ap, subst, Some, None}
 use Rattle.std.specs.Option.{option_map}
 use Rattle.std.proofs.lemmas.List.Sorted.{IsPermutation-refl}
 use Rattle.md_world.specs.Tables.{IsTable}
@@ -22,7 +22,8 @@ use Rattle.md_notice.specs.Following.{Followed, Follows}
 use Rattle.md_sort.proofs.Alone.{is_there, is_alone, table_differ}
 use Rattle.md_render.specs.Texts.{held_text, follower_text}
 use Rattle.md_live.specs.Texts.{shown_text}
-use Rattle.md_live.specs.Telling.{followed, followed_in}
+use Rattle.md_live.specs.Sums.{held_count}
+use Rattle.md_live.specs.Telling.{followed, followed_in, given_count}
 
 taken_table : (rows : List Row) (r : Reply) → IsTable rows → IsTable (taken_in rows r)
 taken_table rows (reply.Progress part) h = table_with_rows rows part.hits h
@@ -38,18 +39,35 @@ held_table rows [] h = h
 held_table rows (r ∷ replies) h = held_table (taken_in rows r) replies (taken_table rows r h)
 
 module _ (events : List Event) (client number : ℕ) where
-  -- the hits given, set one after the other, are what the client holds
-  given_held : (q : Query) → query_at (run STANDARD events).last.queries client number ≡ Some q
-      → with_rows [] (given_by q).rows ≡ held (told client number (entries STANDARD events))
-  given_held q found =
+  -- what the client holds is the hits given
+  held_given : (q : Query) → query_at (run STANDARD events).last.queries client number ≡ Some q
+      → held (told client number (entries STANDARD events)) ≡ (given_by q).rows
+  held_given q found =
       let queries = (run STANDARD events).last.queries in
       let all = entries STANDARD events in
       let hits = (given_by q).rows in
       let key = key_of client number q (found_key queries client number q found) in
       let own : held (told q.client q.number all) ≡ hits = held_is_answer STANDARD events q (own_place queries client number q found) in
-      let is : held (told client number all) ≡ hits = subst (λ c. held (told c number all) ≡ hits) key.0 (subst (λ n. held (told q.client n all) ≡ hits) key.1 own) in
-      subst (λ rows. with_rows [] rows ≡ held (told client number all)) is
+      subst (λ c. held (told c number all) ≡ hits) key.0 (subst (λ n. held (told q.client n all) ≡ hits) key.1 own)
+
+  -- the hits given, set one after the other, are what the client holds
+  given_held : (q : Query) → query_at (run STANDARD events).last.queries client number ≡ Some q
+      → with_rows [] (given_by q).rows ≡ held (told client number (entries STANDARD events))
+  given_held q found =
+      let all = entries STANDARD events in
+      subst (λ rows. with_rows [] rows ≡ held (told client number all)) (held_given q found)
       (with_rows_append [] (held (told client number all)) (held_table [] (told client number all) tt))
+
+  -- the client holds as many rows as hits were given
+  pub counted_so : given_count (option_map given_by (query_at (run STANDARD events).last.queries client number))
+      ≡ held_count (entries STANDARD events) client number (query_at (run STANDARD events).last.queries client number)
+  counted_so =
+      let queries = (run STANDARD events).last.queries in
+      elim (query_at queries client number) as
+      (λ o. query_at queries client number ≡ o → given_count (option_map given_by o) ≡ held_count (entries STANDARD events) client number o) [
+        | None ↦ λ found. refl
+        | Some q ↦ λ found. ap length (sym (held_given q found))
+      ] refl
 
   -- what is printed of the hits given is what is printed of what the client holds
   pub shown_so : follower_text client number (followed_in (run STANDARD events).last client number)

@@ -1,3 +1,5 @@
 mod Ends
 mod Holding
+pub mod Scripts
+mod Summing
 mod Telling

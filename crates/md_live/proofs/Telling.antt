@@ -1,9 +1,12 @@
 -- What is told of all that the lines do is the report of the run.
-use Rattle.std.proofs.Common.{◌≡◌, ◌⊎◌, inl, inr, ℕ, ℤ, ◌+◌, ◌≤◌, List, [], ◌∷◌, ◌++◌, length, fold, refl, sym, ◌∙◌, ap, arith, append_assoc, append-nil, length-append, Option, Some, None}
+use Rattle.std.proofs.Common.{◌≡◌, ◌⊎◌, inl, inr, ℕ, ℤ, ◌+◌, ◌≤◌, List, [], ◌∷◌, ◌++◌, length, refl, sym, ◌∙◌, ap, arith, append_assoc, append-nil, length-append, Option, Some, None}
 use Rattle.std.specs.List.{filter_map, flat_map}
+use Rattle.std.proofs.lemmas.List.Elements.{filter_map-append}
+use Rattle.std.proofs.lemmas.List.Sums.{sum_by-append}
 use Rattle.md_value.specs.Values.{PathBytes}
 use Rattle.md_world.specs.declared.Change.{Change}
 use Rattle.md_world.specs.declared.Change.TheVariants as change
+use Rattle.md_world.specs.declared.Notice.{Notice}
 use Rattle.md_world.specs.declared.TheConstants.Limits.{STANDARD}
 use Rattle.md_machine.specs.declared.Event.{Event}
 use Rattle.md_machine.specs.declared.Event.TheVariants as event
@@ -12,7 +15,7 @@ use Rattle.md_machine.specs.declared.Reply.TheVariants as reply
 use Rattle.md_machine.specs.States.{State, opening, query_at}
 use Rattle.md_machine.specs.Steps.{step}
 use Rattle.md_machine.specs.Runs.{Entry, run_from, run, entries}
-use Rattle.md_machine.proofs.Joining.{last-join, entries-join, length-entries}
+use Rattle.md_machine.proofs.Joining.{last-join, replies-join, entries-join, length-entries}
 use Rattle.md_render.specs.Texts.{journal_text}
 use Rattle.md_files.specs.Additions.{no_report, worse, noted}
 use Rattle.md_files.specs.Findings.{Finding, end_of, err_line}
@@ -27,16 +30,24 @@ use Rattle.md_live.specs.Actions.Action.{job, removal, query, show}
 use Rattle.md_live.specs.Events.{after_commit, end_of as ticket_events, after_draw, job_events, events_of, entries_from}
 use Rattle.md_live.specs.Texts.{shown_text, text_from}
 use Rattle.md_live.specs.Reports.{finding_of, report_of_actions}
-use Rattle.md_live.specs.Telling.{Telling, untold, with_text, after_events, after_action}
+use Rattle.md_live.specs.Tallies.{notice_of, counted, tally_of, both}
+use Rattle.md_live.specs.Telling.{Telling, untold, with_text, after_events, after_action, after_actions}
+use Rattle.md_live.specs.declared.tally.Tally.{Tally}
 use Rattle.md_live.proofs.Holding.{shown_so}
 
--- after all that is done
-abbrev pub after_actions : Telling → List Action → Telling
-after_actions t actions = fold after_action t actions
+abbrev pub telling : State → Report → ℕ → Tally → Telling
+telling state report next tally = record { state = state; report = report; next = next; tally = tally }
 
 -- a server that events led to from the opening state, with a report
-abbrev led : List Event → Report → Telling
-led events report = record { state = (run STANDARD events).last; report = report; next = 1 + length events }
+abbrev pub led : List Event → Report → Telling
+led events report = telling (run STANDARD events).last report (1 + length events) (tally_of (run STANDARD events).replies)
+
+counted-append : (xs ys : List Notice) → counted (xs ++ ys) ≡ both (counted xs) (counted ys)
+counted-append xs ys =
+    rw (length-append xs ys, sum_by-append (λ (n : Notice). length n.added) xs ys, sum_by-append (λ (n : Notice). length n.changed) xs ys, sum_by-append (λ (n : Notice). length n.removed) xs ys) refl
+
+tally-join : (xs ys : List Reply) → tally_of (xs ++ ys) ≡ both (tally_of xs) (tally_of ys)
+tally-join xs ys = ap counted (filter_map-append notice_of xs ys) ∙ counted-append (filter_map notice_of xs) (filter_map notice_of ys)
 
 abbrev made : End → List ℕ → List ℕ → Report
 made end out err = record { end = end; out = out; err = err }
@@ -57,10 +68,13 @@ module _ (events more : List Event) where
   abbrev text : List ℕ
   text = journal_text (1 + length (entries STANDARD events)) (entries_from here more)
 
-  led_on : (report : Report) → after_events (led events report) more ≡ led (events ++ more) (with_text report text)
+  pub led_on : (report : Report) → after_events (led events report) more ≡ led (events ++ more) (with_text report text)
   led_on report =
       let places : 1 + length events + length more ≡ 1 + length (events ++ more) = omega (arith, length-append events more) in
-      rw (last-join (opening STANDARD) events more, places, length-entries (opening STANDARD) events) refl
+      let joined : tally_of (run STANDARD (events ++ more)).replies ≡ both (tally_of (run STANDARD events).replies) (tally_of (run_from here more).replies) =
+      ap tally_of (replies-join (opening STANDARD) events more) ∙ tally-join (run STANDARD events).replies (run_from here more).replies
+      in
+      rw (joined, last-join (opening STANDARD) events more, places, length-entries (opening STANDARD) events) refl
 
   -- the text of events and of what is done after them
   text_on : (report : Report) (actions : List Action)

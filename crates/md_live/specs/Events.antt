@@ -1,14 +1,15 @@
 -- The events of what is done.
-use Rattle.std.specs.Prelude.{ℕ, List, [], ◌∷◌, Option, None, Some}
+use Rattle.std.specs.Prelude.{ℕ, List, [], ◌∷◌, ◌++◌, Option, None, Some}
 use Rattle.std.specs.List.{zip}
 use Rattle.md_value.specs.Values.{PathBytes}
 use Rattle.md_world.specs.declared.Change.{Change}
 use Rattle.md_world.specs.declared.Change.TheVariants as change
+use Rattle.md_world.specs.declared.TheConstants.Limits.{STANDARD}
 use Rattle.md_machine.specs.declared.Event.{Event}
 use Rattle.md_machine.specs.declared.Event.TheVariants as event
 use Rattle.md_machine.specs.declared.Reply.{Reply}
 use Rattle.md_machine.specs.declared.Reply.TheVariants as reply
-use Rattle.md_machine.specs.States.{State}
+use Rattle.md_machine.specs.States.{State, opening}
 use Rattle.md_machine.specs.Steps.{step}
 use Rattle.md_machine.specs.Runs.{Entry, run_from}
 use Rattle.md_live.specs.Actions.{Action, change_of}
@@ -43,3 +44,12 @@ events_of s (show client number) = []
 -- the events from a state, each beside its reply
 abbrev pub entries_from : State → List Event → List Entry
 entries_from s events = zip events (run_from s events).replies
+
+-- the events of all that is done, from a state on
+abbrev pub events_from : State → List Action → List Event
+events_from s [] = []
+events_from s (action ∷ actions) = events_of s action ++ events_from (run_from s (events_of s action)).last actions
+
+-- the events of a whole run, from the opening state
+abbrev pub run_events : List Action → List Event
+run_events actions = events_from (opening STANDARD) actions

@@ -5,4 +5,6 @@ pub mod Actions
 pub mod Events
 pub mod Texts
 pub mod Reports
+pub mod Tallies
+pub mod Sums
 pub mod Telling

@@ -5,9 +5,13 @@ mod given;
 mod moments;
 mod runs;
 mod session;
+mod sums;
+mod tally;
 mod time_forms;
 
 pub use runs::run;
+pub use sums::{Sum, sum_up};
+pub use tally::Tally;
 pub use time_forms::out_of_range;
 
 #[cfg(test)]

@@ -6,6 +6,7 @@ ghost use Rattle.md_files.specs.Reports.{EndHasCause};
 ghost use Rattle.md_live.specs.Given.{tells_imports};
 ghost use Rattle.md_live.specs.Actions.{actions_of};
 ghost use Rattle.md_live.specs.Reports.{Runs, report_of_actions};
+ghost use Rattle.md_live.specs.Telling.{after_actions, untold};
 
 use crate::given::give_all;
 use crate::session::{Session, Setting};
@@ -14,7 +15,25 @@ use md_script::Line;
 use md_source::Tree;
 use std::alloc::{AllocError, Global};
 
-// Runs the lines, with what was given to each.
+/// Runs the lines over a server of their own, with what was given to each.
+pub(crate) fn run_lines(
+    alloc: Global,
+    setting: &Setting,
+    lines: &[Line],
+    givens: Vec<Option<Asked>>,
+) -> Result<Session, AllocError>
+    requires few { length lines.now ≤ 100_000 }
+    requires moment { IsMoment setting.now.moment }
+    ensures { IfOk result (λ session. session ≡ after_actions untold (actions_of setting.now.moment setting.now.offset lines.now givens.items)) }
+{
+    let mut session = Session::new(alloc);
+    for (line, given) in lines.iter().zip(givens) {
+        session.line(alloc, setting, line, given)?;
+    }
+    Ok(session)
+}
+
+// Reports on the run of the lines, with what was given to each.
 fn run_given(
     alloc: Global,
     setting: &Setting,
@@ -25,10 +44,7 @@ fn run_given(
     requires moment { IsMoment setting.now.moment }
     ensures { IfOk result (λ report. report ≡ report_of_actions (actions_of setting.now.moment setting.now.offset lines.now givens.items)) }
 {
-    let mut session = Session::new(alloc);
-    for (line, given) in lines.iter().zip(givens) {
-        session.line(alloc, setting, line, given)?;
-    }
+    let session = run_lines(alloc, setting, lines, givens)?;
     Ok(session.into_report())
 }
 

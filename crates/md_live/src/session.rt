@@ -1,5 +1,5 @@
 // A server that the lines of a script are run on, one after the other.
-ghost use Rattle.std.specs.Prelude.{◌≡◌, ◌+◌, ◌<◌, ◌^◌, ◌∷◌, [], IfOk, OnOk};
+ghost use Rattle.std.specs.Prelude.{◌≡◌, ◌+◌, ◌<◌, ◌^◌, ◌∷◌, [], IfOk, OnOk, map};
 ghost use Rattle.md_value.specs.Values.{IsMoment};
 ghost use Rattle.md_machine.specs.Answers.{asked};
 ghost use Rattle.md_machine.specs.Steps.{step};
@@ -7,9 +7,11 @@ ghost use Rattle.md_live.specs.Actions as actions;
 ghost use Rattle.md_live.specs.Actions.Action.{job, show};
 ghost use Rattle.md_live.specs.Actions.{action_at};
 ghost use Rattle.md_live.specs.Events.{end_of, job_events};
-ghost use Rattle.md_live.specs.Telling.{Telling, untold, after_events, after_action, followed_in, asked_events};
+ghost use Rattle.md_live.specs.Telling.{Telling, untold, after_events, after_action, followed_in, asked_events, given_to, sum_so_far};
 
 use crate::moments::moment_of;
+use crate::sums::Sum;
+use crate::tally::Tally;
 use md_expr_tree::Expr;
 use md_files::{Asked, Report, imported};
 use md_hub::Hub;
@@ -18,10 +20,13 @@ use md_notice::Follower;
 use md_render::{entry_text, held_text};
 use md_script::{Content, Line, What};
 use md_source::Entry;
-use md_value::{Copied, Path};
+use md_value::{Copied, Items, Path};
 use md_world::{Change, Limits, Order, Part};
 use std::alloc::{AllocError, Global};
 use std::marker::Model;
+
+/// The number of the query whose rows are counted for each client.
+const COUNTED_QUERY: u32 = 1;
 
 /// The moment of a run, in seconds since 1970 in UTC, and the minutes by which local time is ahead of UTC.
 #[derive(Clone, Copy)]
@@ -30,16 +35,18 @@ pub struct Setting {
     pub offset: i32,
 }
 
-/// A server, with the report of its run so far and the place of the next entry.
+/// A server, with the report of its run so far, the place of the next entry and the tally of the notices.
 #[derive(Drop)]
 pub struct Session {
     hub: Hub,
     report: Report,
     next: u64,
+    tally: Tally,
 }
 
 impl Model for Session {
     ghost use Rattle.md_live.specs.Telling.{Telling};
+    ghost use Rattle.md_live.specs.Tallies.{IsBelow};
 
     ghost Value = { Telling };
 
@@ -48,7 +55,9 @@ impl Model for Session {
 
     ghost coded = { Prim.hlevel (codes, expr.the_row.coded) };
 
-    ghost view = { λ s. record { state = s.hub; report = s.report; next = s.next } };
+    ghost view = { λ s. record { state = s.hub; report = s.report; next = s.next; tally = s.tally } };
+
+    ghost invariant = { λ s. IsBelow s.next s.tally };
 }
 
 // What a query asks. No form of time is out of range where this is called; if one were, this would answer want of memory.
@@ -111,6 +120,7 @@ impl Session {
             hub: Hub::new(alloc, Limits::STANDARD),
             report: Report::new(alloc),
             next: 1,
+            tally: Tally::new(),
         }
     }
 
@@ -120,7 +130,7 @@ impl Session {
         self.report
     }
 
-    // Tells the server an event, and writes the entry.
+    // Tells the server an event, writes the entry, and counts the reply if it is a notice.
     fn tell(&mut self, alloc: Global, event: &Event) -> Result<Reply, AllocError>
         requires { self.old.next + 1 < 2 ^ 64 }
         ensures reply { IfOk result (λ r. r ≡ (step self.old.state event.now).reply) }
@@ -133,6 +143,7 @@ impl Session {
         let entry = entry_text(alloc, self.next, event, &reply)?;
         self.report.push_out(entry.as_str())?;
         self.next += 1;
+        self.tally.add(&reply);
         Ok(reply)
     }
 
@@ -285,5 +296,39 @@ impl Session {
             What::Show { client, number } => self.show(alloc, *client, *number),
             what => self.ask_query(alloc, line.at_ms, what),
         }
+    }
+
+    // How many rows the query of a client has given it.
+    fn held_count(&self, alloc: Global, client: u8) -> Result<usize, AllocError>
+        ensures { IfOk result (λ count. count ≡ given_to self.now.state client) }
+    {
+        let Some(held) = self.hub.held(alloc, client, COUNTED_QUERY)? else {
+            return Ok(0);
+        };
+        Ok(held.rows.len())
+    }
+
+    // How many rows the query of each of these clients has given it.
+    fn held_counts(&self, alloc: Global, clients: &[u8]) -> Result<Items<usize>, AllocError>
+        ensures { IfOk result (λ counts. counts ≡ map (given_to self.now.state) clients.now) }
+    {
+        let mut counts = Items::new(alloc);
+        for client in clients {
+            counts.push(self.held_count(alloc, *client)?)?;
+        }
+        Ok(counts)
+    }
+
+    /// What the run so far comes to, with how many rows each of these clients holds by its query 1.
+    pub fn sum(&self, alloc: Global, clients: &[u8]) -> Result<Sum, AllocError>
+        ensures { IfOk result (λ sum. sum ≡ sum_so_far self.now clients.now) }
+    {
+        Ok(Sum {
+            events: self.next - 1,
+            version: self.hub.version(),
+            rows: self.hub.rows(alloc)?.len(),
+            tally: self.tally,
+            held: self.held_counts(alloc, clients)?,
+        })
     }
 }

@@ -1,6 +1,8 @@
-use crate::run;
+ghost use Rattle.std.specs.Prelude.{◌≤◌, IfOk, length};
+
+use crate::{Tally, run, sum_up};
 use md_files::End;
-use md_script::{MOST_LINES, read_script};
+use md_script::{MOST_LINES, Script, read_script};
 use md_source::{Entry, MemoryTree, is_content};
 use md_value::{Items, Path};
 use std::alloc::Global;
@@ -31,14 +33,21 @@ fn tree(alloc: Global, fails: &[u64]) -> Result<MemoryTree, Fail> {
     Ok(MemoryTree::new(folders, files, Vec::from_slice(alloc, fails)?))
 }
 
-// How a script's run ends, and its texts for out and for err with a bar before each.
-fn told(alloc: Global, fails: &[u64], script: &str) -> Result<String, Fail> {
+fn read(alloc: Global, script: &str) -> Result<Script, Fail>
+    ensures { IfOk result (λ script. length script ≤ 100_000) }
+{
     let Ok(script) = read_script(alloc, script.as_bytes()) else {
         return Err(Fail::new("not a script"));
     };
     if script.lines().len() > MOST_LINES {
         return Err(Fail::new("too many lines"));
     }
+    Ok(script)
+}
+
+// How a script's run ends, and its texts for out and for err with a bar before each.
+fn told(alloc: Global, fails: &[u64], script: &str) -> Result<String, Fail> {
+    let script = read(alloc, script)?;
     let report = run(alloc, &mut tree(alloc, fails)?, NOW, 0, script.lines())?;
     let end = match report.end {
         End::Ok => "ok",
@@ -116,5 +125,37 @@ none.txt: not found
 x.json: not a JSON object
 ";
     assert_eq!(rt; told.as_str(), want);
+    Ok(())
+}
+
+#[test]
+fn sums_up_a_run(rt: HostRuntime) -> Result<(), Fail> {
+    let alloc = rt.alloc();
+    let script = "import a.json
+import none.txt
+c0 query 1 where kMDItemStarRating > 0
+c0 gather 1
+import b.json
+c0 poll 1
+put a.json {\"kMDItemStarRating\":4}
+c0 poll 1
+remove a.json
+c0 poll 1
+c0 poll 1
+";
+    let script = read(alloc, script)?;
+    let mut tree = tree(alloc, &[])?;
+    let sum = sum_up(alloc, &mut tree, NOW, 0, script.lines(), &[0, 1])?;
+    let tally = Tally {
+        notices: 3,
+        added: 1,
+        changed: 1,
+        removed: 1,
+    };
+    assert_eq!(rt; sum.events, 16);
+    assert_eq!(rt; sum.version, 4);
+    assert_eq!(rt; sum.rows, 1);
+    assert_eq!(rt; sum.tally, tally);
+    assert_eq!(rt; sum.held.as_slice(), [1, 0].as_slice());
     Ok(())
 }

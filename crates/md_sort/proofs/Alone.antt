@@ -1,16 +1,14 @@
 -- Rows in order: there is such a list, and only one.
-use Rattle.std.proofs.Common.{◌≡◌, suc, ◌+◌, Bool, true, false, not, List, [], ◌∷◌, refl, sym, ◌∙◌, ap, subst, arith}
+use Rattle.std.proofs.Common.{◌≡◌, Bool, true, false, not, List, [], ◌∷◌, refl, sym, ◌∙◌, ap, subst}
 use Rattle.std.specs.Prelude.{◌&&◌, filter}
 use Rattle.std.specs.List.{AllByRecursion, IsDistinct, list_any}
 use Rattle.std.proofs.lemmas.Map.Views.{any-filter_same}
-use Rattle.std.specs.List.Sorted.{IsPermutation, IsSortedBy}
-use Rattle.std.specs.Cmp.{IsStrictWeakOrder}
-use Rattle.std.proofs.lemmas.List.MinMax.{ranks_by}
+use Rattle.std.specs.List.Sorted.{IsPermutation}
 use Rattle.std.proofs.lemmas.List.Elements.{All-from_recursion, recursion_from_All}
 use Rattle.std.proofs.lemmas.List.Sorted.{IsPermutation-refl, IsPermutation-sym, IsPermutation-trans, IsPermutation-cons, All-permutation, list_any-IsPermutation}
 use Rattle.std.proofs.lemmas.Map.Keys.{IsDistinct-head, IsDistinct-tail}
 use Rattle.md_value.specs.Values.{PathBytes, is_same}
-use Rattle.md_value.proofs.Orders.{same_refl, same_sym_false, before_not_same}
+use Rattle.md_value.proofs.Orders.{same_refl, before_not_same}
 use Rattle.md_value.proofs.Equals.{attrs_refl}
 use Rattle.md_world.specs.declared.Row.{Row}
 use Rattle.md_world.specs.declared.order.SortKey.{SortKey}
@@ -18,8 +16,8 @@ use Rattle.md_world.specs.Tables.{StandAfter, IsTable, with_row, without_path, s
 use Rattle.md_world.specs.Orders.{row_before, IsOrdered, IsInOrder, in_order}
 use Rattle.md_world.proofs.Lookups.{by_test, row_exact}
 use Rattle.md_sort.specs.Kept.{PathsDiffer}
-use Rattle.md_sort.proofs.Totals.{row_total, row_not_back, row_else_after}
-use Rattle.md_sort.proofs.Placed.{AreApart, placed_ordered, placed_permuted, set_permuted, differ_filter, differ_permuted, ordered_filter, all_implied}
+use Rattle.md_sort.proofs.Totals.{row_not_back}
+use Rattle.md_sort.proofs.Placed.{AreApart, placed_ordered, placed_permuted, set_permuted, differ_filter, differ_permuted, ordered_filter}
 
 pub row_refl : (r : Row) → same_row r r ≡ true
 row_refl r = rw (same_refl r.path, attrs_refl r.attrs) refl
@@ -34,10 +32,6 @@ of_one P r (w ∷ rows) h e =
     by_test (same_row r w)
     (λ k. subst P (sym (row_exact r w k)) h.0)
     (λ k. of_one P r rows h.1 (rw k at e))
-
-pub strict_rows : (order : List SortKey) → IsStrictWeakOrder (row_before order)
-unfolding row_before
-strict_rows order = ranks_by (row_total order) (λ (row : Row). row)
 
 pub apart_permuted : (r : Row) (xs ys : List Row) → IsPermutation xs ys → AreApart r.path xs → AreApart r.path ys
 apart_permuted r xs ys moved h = recursion_from_All _ ys (All-permutation (λ (w : Row). is_same r.path w.path ≡ false) xs ys moved (All-from_recursion _ xs h))
@@ -95,29 +89,6 @@ module _ (order : List SortKey) where
   is_alone rows some other h k =
       same_lists some other h.ascends k.ascends
       (λ r. sym (list_any-IsPermutation (same_row r) rows some h.same_rows) ∙ list_any-IsPermutation (same_row r) rows other k.same_rows)
-
-  sorted_tail : (x : Row) (xs : List Row) → IsSortedBy (row_before order) (x ∷ xs) → IsSortedBy (row_before order) xs
-  sorted_tail x xs h k d le lt =
-      let next : suc k + 1 ≡ suc (k + 1) = omega arith in
-      let far = h (suc k) d (omega arith) (omega arith) in rw next at far
-
-  -- none of the rows after the first stands before it
-  rows_not_before : (x : Row) (xs : List Row) → IsSortedBy (row_before order) (x ∷ xs) → AllByRecursion (λ (w : Row). row_before order w x ≡ false) xs
-  rows_not_before x [] h = tt
-  rows_not_before x (y ∷ ys) h =
-      let first : row_before order y x ≡ false = h 0 x (omega arith) (omega arith) in
-      let rest = rows_not_before y ys (sorted_tail x (y ∷ ys) h) in
-      (first, all_implied _ _ (λ w k. (strict_rows order).chain w y x k first) ys rest)
-
-  rows_after_it : (x : Row) (xs : List Row) → AllByRecursion (λ (w : Row). row_before order w x ≡ false) xs → AreApart x.path xs → AllByRecursion (λ (w : Row). row_before order x w ≡ true) xs
-  rows_after_it x [] h apart = tt
-  rows_after_it x (w ∷ ws) h apart = (row_else_after order w x (same_sym_false x.path w.path apart.0) h.0, rows_after_it x ws h.1 apart.1)
-
-  -- rows that are sorted, and have distinct paths, are in order
-  pub ordered_sorted : (xs : List Row) → IsSortedBy (row_before order) xs → PathsDiffer xs → IsOrdered order xs
-  ordered_sorted [] h differ = tt
-  ordered_sorted (x ∷ xs) h differ =
-      (rows_after_it x xs (rows_not_before x xs h) (IsDistinct-head _ x xs differ), ordered_sorted xs (sorted_tail x xs h) (IsDistinct-tail _ x xs differ))
 
 -- Rows with distinct paths and the same rows among them are the same in another order.
 pub same_members : (xs ys : List Row) → PathsDiffer xs → PathsDiffer ys → ((r : Row) → list_any (same_row r) xs ≡ list_any (same_row r) ys) → IsPermutation xs ys

@@ -1,4 +1,5 @@
 pub mod Totals
 pub mod Placed
 pub mod Alone
+pub mod Pages
 pub mod Slots

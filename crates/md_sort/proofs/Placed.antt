@@ -1,10 +1,9 @@
 -- A row set at its place among rows in order, and a path's row taken out.
-use Rattle.std.proofs.Common.{◌≡◌, ℕ, zero, suc, ◌<◌, ◌≤◌, Bool, true, false, not, List, [], ◌∷◌, ◌++◌, length, insert, get_or, refl, sym, ◌∙◌, ap, subst, arith}
+use Rattle.std.proofs.Common.{◌≡◌, ℕ, zero, suc, ◌+◌, ◌<◌, ◌≤◌, Bool, true, false, not, List, [], ◌∷◌, ◌++◌, length, insert, get_or, refl, sym, ◌∙◌, ap, subst, arith}
 use Rattle.std.specs.Prelude.{filter}
 use Rattle.std.specs.List.{AllByRecursion, IsDistinct, prefix_len, remove}
-use Rattle.std.specs.List.Sorted.{IsPermutation, IsPartitionedBy, IsPartitionPoint}
+use Rattle.std.specs.List.Sorted.{IsPermutation, IsPartitionedBy}
 use Rattle.std.proofs.Math.Numerals.{one-add}
-use Rattle.std.proofs.lemmas.List.Sums.{prefix_len_is}
 use Rattle.std.proofs.lemmas.List.Sorted.{IsPermutation-sym, IsPermutation-trans, IsPermutation-cons, IsPermutation-middle, IsPermutation-filter_both}
 use Rattle.std.proofs.lemmas.Map.Keys.{IsDistinct-head, IsDistinct-tail, IsDistinct-cons, IsDistinct-IsPermutation}
 use Rattle.md_value.specs.Values.{PathBytes, is_same, is_before, same_equiv}
@@ -163,11 +162,6 @@ module _ (order : List SortKey) where
   parted r (w ∷ rows) h (suc i) zero d le lt e = absurd (omega arith)
   parted r (w ∷ rows) h (suc i) (suc j) d le lt e = parted r rows h.1 i j d (omega arith) (omega arith) e
 
-  -- where those before the row end is its place
-  pub point_is : (r : Row) (rows : List Row) (n : ℕ) → n ≤ length rows → IsPartitionPoint (λ (w : Row). before r w ≡ true) (λ (w : Row). before r w ≡ false) rows n → n ≡ prefix_len (before r) rows
-  point_is r [] n le point = omega arith
-  point_is r (w ∷ rows) n le point = sym (prefix_len_is (before r) (w ∷ rows) n w le (λ k lt. point.0 k w (omega arith) lt) (λ lt. point.1 n w (omega arith) lt))
-
   -- Rows with one more are kept, and are those with the row set, in order.
   pub set_kept : (row : Row) (rows : List Row) → AreKept order rows → AreKept order (with_placed order row (without_path rows row.path)) × IsInOrder order (with_row rows row) (with_placed order row (without_path rows row.path))
   set_kept row rows kept =
@@ -242,6 +236,9 @@ by_path : (p q : Row) → row_before [] p q ≡ is_before p.path q.path
 unfolding row_before is_before
 by_path p q = refl
 
+pub before_path : (row : Row) (rows : List Row) → prefix_len (λ (other : Row). is_before other.path row.path) rows ≡ prefix_len (λ other. row_before [] other row) rows
+before_path row rows i = prefix_len (λ other. sym (by_path other row) i) rows
+
 paths_rise : (r w : Row) (p : PathBytes) → row_before [] r w ≡ true → is_before w.path p ≡ true → is_before r.path p ≡ true
 paths_rise r w p h k = before_trans r.path w.path p (sym (by_path r w) ∙ h) k
 
@@ -252,9 +249,27 @@ parted_by_path p (w ∷ rows) h zero (suc j) d le lt e = paths_rise w (get_or ro
 parted_by_path p (w ∷ rows) h (suc i) zero d le lt e = absurd (omega arith)
 parted_by_path p (w ∷ rows) h (suc i) (suc j) d le lt e = parted_by_path p rows h.1 i j d (omega arith) (omega arith) e
 
-pub path_point_is : (p : PathBytes) (rows : List Row) (n : ℕ) → n ≤ length rows → IsPartitionPoint (λ (w : Row). is_before w.path p ≡ true) (λ (w : Row). is_before w.path p ≡ false) rows n → n ≡ prefix_len (λ (w : Row). is_before w.path p) rows
-path_point_is p [] n le point = omega arith
-path_point_is p (w ∷ rows) n le point = sym (prefix_len_is (λ (v : Row). is_before v.path p) (w ∷ rows) n w le (λ k lt. point.0 k w (omega arith) lt) (λ lt. point.1 n w (omega arith) lt))
+-- as many rows stand before a path when its row is taken out
+pub before_without : (p : PathBytes) (rows : List Row) → IsOrdered [] rows → prefix_len (λ (row : Row). is_before row.path p) (without_path rows p) ≡ prefix_len (λ (row : Row). is_before row.path p) rows
+before_without p [] h = refl
+before_without p (r ∷ rows) h =
+    by_test (is_same r.path p)
+    (λ e.
+    let is = same_exact r.path p e in
+    let itself : is_before r.path p ≡ false = subst (λ q. is_before r.path q ≡ false) is (itself_not_before r.path) in
+    let later = all_implied _ _ (λ (w : Row) k. subst (λ q. is_before w.path q ≡ false) is (before_not_back r.path w.path (sym (by_path r w) ∙ k))) rows h.0 in
+    rw (e, itself) (none_before_path p (without_path rows p) (all_filter _ (λ other. not (is_same other.path p)) rows later)))
+    (λ e. by_test (is_before r.path p)
+    (λ b. rw (e, b) (ap (λ n. 1 + n) (before_without p rows h.1)))
+    (λ b. rw (e, b) refl))
+  where
+    none_before_path : (p : PathBytes) (rows : List Row) → AllByRecursion (λ (w : Row). is_before w.path p ≡ false) rows → prefix_len (λ (row : Row). is_before row.path p) rows ≡ 0
+    none_before_path p [] h = refl
+    none_before_path p (w ∷ rows) h = rw h.0 refl
+
+pub prefix_within : (test : Row → Bool) (rows : List Row) → prefix_len test rows ≤ length rows
+prefix_within test [] = omega arith
+prefix_within test (r ∷ rows) = let rest = prefix_within test rows in by_test (test r) (λ e. rw e (omega arith)) (λ e. rw e (omega arith))
 
 -- rows that stand after a path do not have it
 none_after : (p : PathBytes) (r : Row) (rows : List Row) → is_before p r.path ≡ true → IsOrdered [] (r ∷ rows) → has_path (r ∷ rows) p ≡ false

@@ -1,31 +1,25 @@
 -- Rows under slots: what an edit of the slots makes of the rows.
-use Rattle.std.proofs.Common.{◌≡◌, ◌≢◌, ℕ, zero, suc, ◌+◌, ◌<◌, ◌≤◌, Bool, true, false, not, cond, List, [], ◌∷◌, length, insert, get_or, refl, sym, ◌∙◌, ap, subst, arith}
+use Rattle.std.proofs.Common.{◌≡◌, ◌≢◌, ℕ, zero, suc, ◌+◌, ◌<◌, ◌≤◌, Bool, true, false, not, cond, List, [], ◌∷◌, ◌++◌, length, take, insert, get_or, refl, sym, ◌∙◌, ap, subst, arith}
 use Rattle.std.specs.Prelude.{Option, None, Some, is_some, slice_get}
 use Rattle.std.specs.List.{AllByRecursion, prefix_len, remove, list_any}
-use Rattle.std.specs.List.Sorted.{IsPermutation, IsPartitionedBy, IsPartitionPoint, IsSortedBy}
+use Rattle.std.specs.List.Sorted.{IsPermutation, IsPartitionedBy}
 use Rattle.std.proofs.Math.Numerals.{one-add}
-use Rattle.std.proofs.lemmas.List.Sums.{prefix_len_is}
-use Rattle.std.proofs.lemmas.List.Sorted.{IsPermutation-refl, IsPermutation-sym, IsPermutation-trans, IsPermutation-cons, IsPermutation-map, All-permutation, list_any-IsPermutation}
-use Rattle.std.proofs.lemmas.List.Elements.{All-from_recursion, recursion_from_All}
-use Rattle.std.proofs.lemmas.List.MinMax.{ranks_by}
-use Rattle.std.specs.declared.cmp.Ordering.{Ordering}
-use Rattle.std.specs.Ordering.{flip_args, is_lt}
-use Rattle.std.specs.Cmp.{IsTotalOrder, IsStrictWeakOrder, back_total}
-use Rattle.std.specs.Cmp.Lexicographic.{options_total}
-use Rattle.std.specs.Option.{option_cmp}
-use Rattle.std.proofs.lemmas.Map.Keys.{IsDistinct-cons}
-use Rattle.md_value.specs.Values.{PathBytes, is_same}
+use Rattle.std.proofs.lemmas.List.Sorted.{IsPermutation-refl, IsPermutation-sym, IsPermutation-trans, IsPermutation-cons, IsPermutation-to_front, list_any-IsPermutation}
+use Rattle.std.specs.Option.{option_map_or}
+use Rattle.std.proofs.lemmas.Option.{slice_get_within}
+use Rattle.std.proofs.lemmas.Map.Keys.{IsDistinct-cons, IsDistinct-head, IsDistinct-tail}
+use Rattle.md_value.specs.Values.{PathBytes, is_same, is_before}
 use Rattle.md_value.proofs.Orders.{same_refl, same_exact}
 use Rattle.md_world.specs.declared.Row.{Row}
 use Rattle.md_world.specs.declared.order.SortKey.{SortKey}
 use Rattle.md_world.specs.Tables.{has_path, without_path, same_row}
-use Rattle.md_world.specs.Orders.{row_before, row_cmp, IsOrdered, IsInOrder, with_placed}
+use Rattle.md_world.specs.Orders.{row_before, IsOrdered, IsInOrder, with_placed}
 use Rattle.md_world.proofs.Lookups.{by_test, row_exact}
 use Rattle.md_sort.specs.Kept.{PathsDiffer, AreKept, has_at}
-use Rattle.md_sort.specs.Slots.{row_or_empty, rows_at, AllHeld, passes, both_cmp, AreIndexed}
-use Rattle.md_sort.proofs.Totals.{row_total, row_not_back}
-use Rattle.md_sort.proofs.Placed.{AreApart, all_at, differ_permuted, apart_without, apart_from, inserted, placed_ordered, placed_permuted, removed, without_kept, none_kept, ordered_filter}
-use Rattle.md_sort.proofs.Alone.{of_one, row_refl, ordered_sorted, filter_permuted, apart_permuted}
+use Rattle.md_sort.specs.Slots.{row_or_empty, rows_at, AllHeld, passes, AreIndexed}
+use Rattle.md_sort.proofs.Totals.{row_not_back}
+use Rattle.md_sort.proofs.Placed.{AreApart, all_at, differ_permuted, apart_without, apart_from, inserted, placed_ordered, placed_permuted, removed, without_kept, none_kept, ordered_filter, before_path}
+use Rattle.md_sort.proofs.Alone.{of_one, row_refl, is_alone, filter_permuted, apart_permuted}
 
 not_true : false ≡ true → ⊥
 not_true e = cc
@@ -48,10 +42,6 @@ all_removed : {X : Type 0} (P : X → Type 0) (xs : List X) (i : ℕ) → AllByR
 all_removed P [] i h lt = absurd (omega arith)
 all_removed P (y ∷ xs) zero h lt = h.1
 all_removed P (y ∷ xs) (suc i) h lt = (h.0, all_removed P xs i h.1 (omega arith))
-
-pub slot_point_is : (q : ℕ → Bool) (slots : List ℕ) (n : ℕ) → n ≤ length slots → IsPartitionPoint (λ k. q k ≡ true) (λ k. q k ≡ false) slots n → n ≡ prefix_len q slots
-slot_point_is q [] n le point = omega arith
-slot_point_is q (s ∷ slots) n le point = sym (prefix_len_is q (s ∷ slots) n s le (λ k lt. point.0 k s (omega arith) lt) (λ lt. point.1 n s (omega arith) lt))
 
 module _ (find : ℕ → Option Row) where
   pub length_rows : (slots : List ℕ) → length (rows_at find slots) ≡ length slots
@@ -77,11 +67,6 @@ module _ (find : ℕ → Option Row) where
       let long = length_rows slots in
       let later : test (get_or (rows_at find slots) j none) ≡ true = sym (passes_there test slots j d none h lt) ∙ e in
       passes_there test slots i d none h (omega arith) ∙ parts i j none le (omega (arith, long)) later
-
-  pub none_row : (slots : List ℕ) (i : ℕ) → slice_get slots i ≡ None → slice_get (rows_at find slots) i ≡ None
-  none_row [] i h = refl
-  none_row (s ∷ slots) zero h = cc
-  none_row (s ∷ slots) (suc i) h = none_row slots i h
 
   pub some_row : (slots : List ℕ) (i s : ℕ) → AllHeld find slots → slice_get slots i ≡ Some s → slice_get (rows_at find slots) i ≡ find s
   some_row [] i s held h = cc
@@ -128,17 +113,34 @@ module _ (find after : ℕ → Option Row) where
     stay_gone slot row there others slots apart.1,
   )
 
--- a row among rows in order stands at its own place
-pub own_place : (order : List SortKey) (row : Row) (rows : List Row) → IsOrdered order rows → list_any (same_row row) rows ≡ true → has_at rows (prefix_len (λ other. row_before order other row) rows) row.path ≡ true
+not_itself : (order : List SortKey) (row : Row) → row_before order row row ≡ false
+not_itself order row = by_test (row_before order row row) (λ b. absurd (not_true (sym (row_not_back order row row b) ∙ b))) (λ b. b)
+
+all_there : {X : Type 0} (P : X → Type 0) (xs : List X) (i : ℕ) (x : X) → AllByRecursion P xs → slice_get xs i ≡ Some x → P x
+all_there P [] i x h e = cc
+all_there P (y ∷ xs) zero x h e = let same : y ≡ x = cc in subst P same h.0
+all_there P (y ∷ xs) (suc i) x h e = all_there P xs i x h.1 e
+
+-- so many rows stand before a row as its place says
+pub own_at : (order : List SortKey) (row : Row) (rows : List Row) (i : ℕ) → IsOrdered order rows → slice_get rows i ≡ Some row → prefix_len (λ other. row_before order other row) rows ≡ i
+own_at order row [] i h e = cc
+own_at order row (w ∷ rows) zero h e =
+    let is : w ≡ row = cc in
+    let itself : row_before order w row ≡ false = subst (λ v. row_before order v row ≡ false) (sym is) (not_itself order row) in
+    rw itself refl
+own_at order row (w ∷ rows) (suc i) h e =
+    let before = all_there (λ v. row_before order w v ≡ true) rows i row h.0 e in
+    rw (before, one-add) (ap suc (own_at order row rows i h.1 e))
+
+-- a row among rows in order is found at its own place
+pub own_place : (order : List SortKey) (row : Row) (rows : List Row) → IsOrdered order rows → list_any (same_row row) rows ≡ true → slice_get rows (prefix_len (λ other. row_before order other row) rows) ≡ Some row
 own_place order row [] h e = absurd (not_true e)
 own_place order row (w ∷ rows) h e =
     by_test (same_row row w)
     (λ k.
     let is : row ≡ w = row_exact row w k in
-    let itself : row_before order w row ≡ false = by_test (row_before order w row)
-    (λ b. absurd (not_true (sym (subst (λ v. row_before order v w ≡ false) (sym is) (row_not_back order w w (subst (λ v. row_before order w v ≡ true) is b))) ∙ subst (λ v. row_before order v w ≡ true) (sym is) (subst (λ v. row_before order w v ≡ true) is b))))
-    (λ b. b) in
-    rw itself (subst (λ (v : Row). is_same v.path row.path ≡ true) is (same_refl row.path)))
+    let itself : row_before order w row ≡ false = subst (λ v. row_before order v row ≡ false) is (not_itself order row) in
+    rw itself (ap (λ v. Some v) (sym is)))
     (λ k.
     let rest = rw k at e in
     let before = of_one (λ v. row_before order w v ≡ true) row rows h.0 rest in
@@ -165,7 +167,7 @@ module _ (order : List SortKey) (find after : ℕ → Option Row) (paths places 
 
     -- A row's slot is taken out of both lists.
     pub out_indexed : (i j : ℕ) → i < length paths → j < length places → has_at (rows_at find paths) i row.path ≡ true → has_at (rows_at find places) j row.path ≡ true
-        → AreIndexed order after (remove paths i) (remove places j) × (rows_at after (remove places j) ≡ without_path (rows_at find places) row.path)
+        → AreIndexed order after (remove paths i) (remove places j) × (rows_at after (remove places j) ≡ without_path (rows_at find places) row.path) × (rows_at after (remove paths i) ≡ without_path (rows_at find paths) row.path)
     out_indexed i j lt_i lt_j has_i has_j =
         let test = λ (other : Row). not (is_same other.path row.path) in
         let path = out_of paths i paths_differ lt_i has_i in
@@ -178,6 +180,7 @@ module _ (order : List SortKey) (find after : ℕ → Option Row) (paths places 
             same = subst (λ xs. IsPermutation xs (rows_at after (remove places j))) (sym path.1) (subst (IsPermutation (without_path (rows_at find paths) row.path)) (sym place.1) (filter_permuted test (rows_at find paths) (rows_at find places) paths_differ indexed.same));
           },
           place.1,
+          path.1,
         )
 
   module _ (row : Row) (none : find slot ≡ None) (there : after slot ≡ Some row) where
@@ -223,104 +226,112 @@ has_permuted p xs ys moved = by_any xs ∙ list_any-IsPermutation (λ (row : Row
     by_any [] = refl
     by_any (r ∷ rows) = by_test (is_same r.path p) (λ e. rw e refl) (λ e. rw e (by_any rows))
 
-at_within : (rows : List Row) (i : ℕ) (p : PathBytes) → has_at rows i p ≡ true → i < length rows
-at_within [] i p has = absurd (not_true has)
-at_within (r ∷ rows) zero p has = omega arith
-at_within (r ∷ rows) (suc i) p has = let rest = at_within rows i p has in omega arith
-
-has_its_path : (rows : List Row) (i : ℕ) (p : PathBytes) (row : Row) → slice_get rows i ≡ Some row → has_at rows i p ≡ true → row.path ≡ p
+pub has_its_path : (rows : List Row) (i : ℕ) (p : PathBytes) (row : Row) → slice_get rows i ≡ Some row → has_at rows i p ≡ true → row.path ≡ p
 has_its_path [] i p row h has = cc
 has_its_path (r ∷ rows) zero p row h has = let same : r ≡ row = cc in ap (λ (w : Row). w.path) (sym same) ∙ same_exact r.path p has
 has_its_path (r ∷ rows) (suc i) p row h has = has_its_path rows i p row h has
 
--- the row that stands at a place by path stands at its own place in the order
-pub own_in : (order : List SortKey) (find : ℕ → Option Row) (paths places : List ℕ) → AreIndexed order find paths places → (i n : ℕ) (p : PathBytes) (row : Row)
-    → slice_get (rows_at find paths) i ≡ Some row → has_at (rows_at find paths) i p ≡ true → n ≡ prefix_len (λ other. row_before order other row) (rows_at find places)
-    → (n < length places) × (has_at (rows_at find places) n p ≡ true)
-own_in order find paths places indexed i n p row there has is =
-    let among = sym (list_any-IsPermutation (same_row row) (rows_at find paths) (rows_at find places) indexed.same) ∙ there_among (rows_at find paths) i row there in
-    let own = own_place order row (rows_at find places) indexed.kept.ordered among in
-    let mine : has_at (rows_at find places) n p ≡ true =
-    subst (λ q. has_at (rows_at find places) n q ≡ true) (has_its_path (rows_at find paths) i p row there has) (ap (λ m. has_at (rows_at find places) m row.path) is ∙ own) in
-    let within = at_within (rows_at find places) n p mine in
-    let long = length_rows find places in
-    (omega (arith, long), mine)
+has_own : (rows : List Row) (i : ℕ) (row : Row) → slice_get rows i ≡ Some row → has_at rows i row.path ≡ true
+has_own rows i row there = ap (λ o. option_map_or (λ (w : Row). is_same w.path row.path) o false) there ∙ same_refl row.path
 
-both_total : (R : Row → Row → Ordering) → IsTotalOrder R → IsTotalOrder (both_cmp R)
-both_total R total = subst IsTotalOrder (λ i a b. as_options a b i) (back_total (options_total (back_total total)))
-  where
-    as_options : (a b : Option Row) → option_cmp (flip_args R) b a ≡ both_cmp R a b
-    as_options None None = refl
-    as_options None (Some b) = refl
-    as_options (Some a) None = refl
-    as_options (Some a) (Some b) = refl
+module _ (order : List SortKey) (find : ℕ → Option Row) (paths places : List ℕ) (indexed : AreIndexed order find paths places) where
+  -- the row that stands at a place by path is found at its own place in the order
+  pub own_in : (i n : ℕ) (row : Row) → slice_get (rows_at find paths) i ≡ Some row → n ≡ prefix_len (λ other. row_before order other row) (rows_at find places)
+      → (slice_get (rows_at find places) n ≡ slice_get (rows_at find paths) i) × (n < length places)
+  own_in i n row there is =
+      let among = sym (list_any-IsPermutation (same_row row) (rows_at find paths) (rows_at find places) indexed.same) ∙ there_among (rows_at find paths) i row there in
+      let own = ap (slice_get (rows_at find places)) is ∙ own_place order row (rows_at find places) indexed.kept.ordered among in
+      let long = length_rows find places in
+      let within = slice_get_within (rows_at find places) n row own in
+      (own ∙ sym there, omega (arith, long))
 
-both_held : (R : Row → Row → Ordering) (o u : Option Row) → is_some o ≡ true → is_some u ≡ true → both_cmp R o u ≡ R (row_or_empty o) (row_or_empty u)
-both_held R None u h k = absurd (not_true h)
-both_held R (Some a) None h k = absurd (not_true k)
-both_held R (Some a) (Some b) h k = refl
+  -- with no keys the rows by path are those in the order
+  pub same_by_path : order ≡ [] → rows_at find paths ≡ rows_at find places
+  same_by_path none =
+      is_alone [] (rows_at find paths) (rows_at find paths) (rows_at find places)
+      record { same_rows = IsPermutation-refl (rows_at find paths); ascends = indexed.by_path }
+      record { same_rows = indexed.same; ascends = subst (λ keys. IsOrdered keys (rows_at find places)) none indexed.kept.ordered }
 
-module _ (order : List SortKey) (find : ℕ → Option Row) where
-  -- whether the row of a slot stands before that of another
-  abbrev pub slot_before : ℕ → ℕ → Bool
-  slot_before a b = is_lt (both_cmp (row_cmp order) (find a) (find b))
+  -- A slot is taken out of both lists, and its row from under it.
+  pub taken_out : (after : ℕ → Option Row) (slot : ℕ) → ((other : ℕ) → other ≢ slot → after other ≡ find other) → (i j : ℕ) → slice_get paths i ≡ Some slot → j < length places → slice_get (rows_at find places) j ≡ slice_get (rows_at find paths) i
+      → AreIndexed order after (remove paths i) (remove places j)
+      × ((p : PathBytes) → has_at (rows_at find paths) i p ≡ true → (rows_at after (remove places j) ≡ without_path (rows_at find places) p) × (rows_at after (remove paths i) ≡ without_path (rows_at find paths) p))
+  taken_out after slot others i j at lt_j same =
+      let row = row_or_empty (find slot) in
+      let there : slice_get (rows_at find paths) i ≡ find slot = some_row find paths i slot indexed.paths_held at in
+      let held : find slot ≡ Some row = held_is (find slot) (all_there (λ s. is_some (find s) ≡ true) paths i slot indexed.paths_held at) in
+      let path_has = has_own (rows_at find paths) i row (there ∙ held) in
+      let place_has = has_own (rows_at find places) j row (same ∙ there ∙ held) in
+      let out = out_indexed order find after paths places indexed slot others row held i j (slice_get_within paths i slot at) lt_j path_has place_has in (
+        out.0,
+        (λ p has.
+            let its = has_its_path (rows_at find paths) i p row (there ∙ held) has in
+            (out.1 ∙ ap (without_path (rows_at find places)) its, out.2 ∙ ap (without_path (rows_at find paths)) its)),
+      )
 
-  pub strict_slots : IsStrictWeakOrder slot_before
-  strict_slots = ranks_by (both_total (row_cmp order) (row_total order)) find
+  -- where a row would stand by path, it would stand with no keys
+  pub placed_by_path : (row : Row) (i : ℕ) → i ≡ prefix_len (λ (other : Row). is_before other.path row.path) (rows_at find paths) → order ≡ [] → i ≡ prefix_len (λ other. row_before [] other row) (rows_at find places)
+  placed_by_path row i is none = is ∙ before_path row (rows_at find paths) ∙ ap (prefix_len (λ other. row_before [] other row)) (same_by_path none)
 
-  pub held_permuted : (slots moved : List ℕ) → IsPermutation slots moved → AllHeld find slots → AllHeld find moved
-  held_permuted slots moved h held = recursion_from_All _ moved (All-permutation (λ slot. is_some (find slot) ≡ true) slots moved h (All-from_recursion _ slots held))
+  -- so does a row that is there
+  pub own_by_path : (row : Row) (i : ℕ) → slice_get (rows_at find paths) i ≡ Some row → order ≡ [] → i ≡ prefix_len (λ other. row_before [] other row) (rows_at find places)
+  own_by_path row i there none = sym (own_at [] row (rows_at find paths) i indexed.by_path there) ∙ ap (prefix_len (λ other. row_before [] other row)) (same_by_path none)
 
-  sorted_rows : (slots : List ℕ) → AllHeld find slots → IsSortedBy slot_before slots → IsSortedBy (row_before order) (rows_at find slots)
-  unfolding row_before
-  sorted_rows slots held h k d le lt =
-      let long = length_rows find slots in
-      let next : k + 1 < length slots = omega (arith, long) in
-      let first : k < length slots = omega arith in
-      let a = get_or slots (k + 1) 0 in
-      let b = get_or slots k 0 in
-      (λ i. is_lt (row_cmp order (row_there find slots (k + 1) 0 d next i) (row_there find slots k 0 d first i)))
-      ∙ ap is_lt (sym (both_held (row_cmp order) (find a) (find b) (all_at _ slots (k + 1) 0 held next) (all_at _ slots k 0 held first)))
-      ∙ h k 0 le next
+  -- Slots that lead to the same rows in another order are an index by that order.
+  pub resorted : (new : List SortKey) (moved : List ℕ) → AllHeld find moved → IsPermutation (rows_at find paths) (rows_at find moved) → IsOrdered new (rows_at find moved)
+      → AreIndexed new find paths moved × IsInOrder new (rows_at find places) (rows_at find moved)
+  resorted new moved held rows ordered =
+      let again = IsPermutation-trans _ _ _ (IsPermutation-sym _ _ indexed.same) rows in (
+        record {
+          paths_held = indexed.paths_held;
+          places_held = held;
+          by_path = indexed.by_path;
+          kept = record { distinct = differ_permuted _ _ again indexed.kept.distinct; ordered = ordered };
+          same = rows;
+        },
+        record { same_rows = again; ascends = ordered },
+      )
 
-  -- the rows of slots that are sorted are in order
-  pub slots_ordered : (slots moved : List ℕ) → AllHeld find slots → PathsDiffer (rows_at find slots) → IsPermutation slots moved → IsSortedBy slot_before moved → IsOrdered order (rows_at find moved)
-  slots_ordered slots moved held differ h sorted =
-      ordered_sorted order (rows_at find moved) (sorted_rows moved (held_permuted slots moved h held) sorted) (differ_permuted _ _ (IsPermutation-map (λ slot. row_or_empty (find slot)) slots moved h) differ)
-
--- Slots that are sorted by another order are an index by that order.
-pub resorted : (old order : List SortKey) (find : ℕ → Option Row) (paths places moved : List ℕ) → AreIndexed old find paths places → IsPermutation places moved → IsOrdered order (rows_at find moved)
-    → AreIndexed order find paths moved × IsInOrder order (rows_at find places) (rows_at find moved)
-resorted old order find paths places moved indexed h ordered =
-    let rows = IsPermutation-map (λ slot. row_or_empty (find slot)) places moved h in (
-      record {
-        paths_held = indexed.paths_held;
-        places_held = held_permuted old find places moved h indexed.places_held;
-        by_path = indexed.by_path;
-        kept = record { distinct = differ_permuted _ _ rows indexed.kept.distinct; ordered = ordered };
-        same = IsPermutation-trans _ _ _ indexed.same rows;
-      },
-      record { same_rows = rows; ascends = ordered },
-    )
-
--- the slot at the place of a path has its row
-slot_row : (find : ℕ → Option Row) (paths : List ℕ) (i slot : ℕ) (p : PathBytes) → AllHeld find paths → i < length paths → slot ≡ get_or paths i slot → has_at (rows_at find paths) i p ≡ true
-    → (find slot ≡ Some (row_or_empty (find slot))) × ((row_or_empty (find slot)).path ≡ p)
-slot_row find [] i slot p held lt is has = absurd (omega arith)
-slot_row find (s ∷ paths) zero slot p held lt is has =
-    (subst (λ t. find t ≡ Some (row_or_empty (find t))) (sym is) (held_is (find s) held.0), ap (λ t. (row_or_empty (find t)).path) is ∙ same_exact (row_or_empty (find s)).path p has)
-slot_row find (s ∷ paths) (suc i) slot p held lt is has = slot_row find paths i slot p held.1 (omega arith) is has
-
--- A path's slot is taken out of both lists, and its row from under it.
-pub taken_out : (order : List SortKey) (find after : ℕ → Option Row) (paths places : List ℕ) → AreIndexed order find paths places → (slot : ℕ) → ((other : ℕ) → other ≢ slot → after other ≡ find other)
-    → (i j : ℕ) (p : PathBytes) → i < length paths → j < length places → slot ≡ get_or paths i slot → has_at (rows_at find paths) i p ≡ true → has_at (rows_at find places) j p ≡ true
-    → AreIndexed order after (remove paths i) (remove places j) × (rows_at after (remove places j) ≡ without_path (rows_at find places) p)
-taken_out order find after paths places indexed slot others i j p lt_i lt_j is has_i has_j =
+-- a row that is added at its place
+pub added : (order : List SortKey) (find : ℕ → Option Row) (slots : List ℕ) (slot i : ℕ) → AllHeld find slots → IsOrdered order (rows_at find slots) → is_some (find slot) ≡ true → has_path (rows_at find slots) (row_or_empty (find slot)).path ≡ false
+    → i ≤ length slots → i ≡ prefix_len (λ other. row_before order other (row_or_empty (find slot))) (rows_at find slots)
+    → AllHeld find (insert slots i slot) × IsOrdered order (rows_at find (insert slots i slot)) × (rows_at find (insert slots i slot) ≡ with_placed order (row_or_empty (find slot)) (rows_at find slots))
+added order find slots slot i held ordered some absent le is =
     let row = row_or_empty (find slot) in
-    let own = slot_row find paths i slot p indexed.paths_held lt_i is has_i in
-    let back = sym own.1 in
-    let out = out_indexed order find after paths places indexed slot others row own.0 i j lt_i lt_j (subst (λ q. has_at (rows_at find paths) i q ≡ true) back has_i) (subst (λ q. has_at (rows_at find places) j q ≡ true) back has_j) in
-    (out.0, out.1 ∙ ap (without_path (rows_at find places)) own.1)
+    let apart = apart_from row.path (rows_at find slots) absent in
+    let placed = rows_inserted find slots i slot le ∙ ap (λ n. insert (rows_at find slots) n row) is ∙ inserted order row (rows_at find slots) apart ordered in
+    (all_inserted _ slots i slot le some held, subst (IsOrdered order) (sym placed) (placed_ordered order row (rows_at find slots) apart ordered), placed)
+
+module _ (find : ℕ → Option Row) where
+  rows_more : (slots : List ℕ) (i slot : ℕ) → slice_get slots i ≡ Some slot → rows_at find (take (i + 1) slots) ≡ rows_at find (take i slots) ++ row_or_empty (find slot) ∷ []
+  rows_more [] i slot e = cc
+  rows_more (s ∷ slots) zero slot e = let same : s ≡ slot = cc in ap (λ t. row_or_empty (find t) ∷ []) same
+  rows_more (s ∷ slots) (suc i) slot e = let next : suc i + 1 ≡ suc (i + 1) = omega arith in rw next (ap (λ rest. row_or_empty (find s) ∷ rest) (rows_more slots i slot e))
+
+  -- the next row has none of the paths so far
+  fresh : (slots : List ℕ) (i slot : ℕ) → PathsDiffer (rows_at find slots) → slice_get slots i ≡ Some slot → has_path (rows_at find (take i slots)) (row_or_empty (find slot)).path ≡ false
+  fresh [] i slot differ e = cc
+  fresh (s ∷ slots) zero slot differ e = refl
+  fresh (s ∷ slots) (suc i) slot differ e =
+      let row = row_or_empty (find slot) in
+      let rest = fresh slots i slot (IsDistinct-tail _ _ _ differ) e in
+      let other : is_same (row_or_empty (find s)).path row.path ≡ false = all_rows _ slots i slot (IsDistinct-head _ _ _ differ) e in
+      rw other rest
+    where
+      all_rows : (P : Row → Type 0) (slots : List ℕ) (i slot : ℕ) → AllByRecursion P (rows_at find slots) → slice_get slots i ≡ Some slot → P (row_or_empty (find slot))
+      all_rows P [] i slot h e = cc
+      all_rows P (s ∷ slots) zero slot h e = let same : s ≡ slot = cc in subst (λ t. P (row_or_empty (find t))) same h.0
+      all_rows P (s ∷ slots) (suc i) slot h e = all_rows P slots i slot h.1 e
+
+  -- the rows so far with one more
+  pub sorted_more : (order : List SortKey) (slots sorted : List ℕ) (i slot : ℕ) → PathsDiffer (rows_at find slots) → slice_get slots i ≡ Some slot → IsPermutation (rows_at find (take i slots)) (rows_at find sorted)
+      → (has_path (rows_at find sorted) (row_or_empty (find slot)).path ≡ false) × IsPermutation (rows_at find (take (i + 1) slots)) (with_placed order (row_or_empty (find slot)) (rows_at find sorted))
+  sorted_more order slots sorted i slot differ e moved =
+      let row = row_or_empty (find slot) in (
+        sym (has_permuted row.path _ _ moved) ∙ fresh slots i slot differ e,
+        subst (λ rows. IsPermutation rows (with_placed order row (rows_at find sorted))) (sym (rows_more slots i slot e))
+            (IsPermutation-trans _ _ _ (IsPermutation-to_front _ row) (IsPermutation-trans _ _ _ (IsPermutation-cons row _ _ moved) (placed_permuted order row (rows_at find sorted)))),
+      )
 
 pub none_indexed : (order : List SortKey) (find : ℕ → Option Row) → AreIndexed order find [] []
 none_indexed order find = record { paths_held = tt; places_held = tt; by_path = tt; kept = none_kept order; same = IsPermutation-refl [] }

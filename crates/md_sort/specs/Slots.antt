@@ -1,8 +1,5 @@
 -- Rows that lie under keys, and lists of keys.
-use Rattle.std.specs.Prelude.{◌≡◌, ℕ, Bool, true, false, List, [], Option, None, Some, is_some, map, min, ◌-◌, vec_len, vec_capacity}
-use Rattle.std.specs.declared.cmp.Ordering.{Ordering}
-use Rattle.std.specs.declared.cmp.Ordering.TheVariants.{Less, Equal, Greater}
-use Rattle.std.specs.Global.{Vec}
+use Rattle.std.specs.Prelude.{◌≡◌, ℕ, Bool, true, false, List, [], Option, None, Some, is_some, map, min, ◌-◌, length}
 use Rattle.slab.specs.Slab.{Slab, slab_len}
 use Rattle.std.specs.List.{AllByRecursion}
 use Rattle.std.specs.List.Sorted.{IsPermutation}
@@ -11,6 +8,7 @@ use Rattle.md_world.specs.declared.Row.{Row}
 use Rattle.md_world.specs.declared.order.SortKey.{SortKey}
 use Rattle.md_world.specs.Orders.{IsOrdered}
 use Rattle.md_sort.specs.Kept.{AreKept}
+use Rattle.md_sort.specs.Pages.{Listed}
 
 -- the row, or an empty one where there is none
 abbrev pub row_or_empty : Option Row → Row
@@ -37,13 +35,6 @@ pub record AreIndexed (order : List SortKey) (find : ℕ → Option Row) (paths 
   pub kept : AreKept order (rows_at find places)
   pub same : IsPermutation (rows_at find paths) (rows_at find places)
 
--- two rows, where both are there; a row before none
-abbrev pub both_cmp : (Row → Row → Ordering) → Option Row → Option Row → Ordering
-both_cmp cmp (Some a) (Some b) = cmp a b
-both_cmp cmp (Some a) None = Less
-both_cmp cmp None (Some b) = Greater
-both_cmp cmp None None = Equal
-
 -- for how many more rows there is room under slots, and in both lists
-abbrev pub room_in : Slab Row → Vec ℕ → Vec ℕ → ℕ
-room_in rows paths places = min (rows.capacity - slab_len rows) (min (vec_capacity paths - vec_len paths) (vec_capacity places - vec_len places))
+abbrev pub room_in : Slab Row → Listed → Listed → ℕ
+room_in rows paths places = min (rows.capacity - slab_len rows) (min (paths.capacity - length paths.items) (places.capacity - length places.items))

@@ -4,6 +4,8 @@
 mod compare;
 mod index;
 mod laws;
+mod page;
+mod paged;
 mod sorted;
 
 pub use laws::one_order;

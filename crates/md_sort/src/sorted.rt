@@ -6,6 +6,7 @@ ghost use Rattle.md_world.specs.Orders.{IsInOrder};
 ghost use Rattle.md_sort.specs.Kept.{HasRoom, has_at};
 
 use crate::index;
+use crate::paged::SlotList;
 use md_value::Path;
 use md_world::{Order, Row};
 use slab::Slab;
@@ -19,8 +20,8 @@ pub struct Sorted {
     order: Order,
     rows: Slab<Row>,
     // The slots of the rows, by path and in the order.
-    paths: Vec<usize>,
-    places: Vec<usize>,
+    paths: SlotList,
+    places: SlotList,
 }
 
 impl Model for Sorted {
@@ -44,8 +45,8 @@ impl Sorted {
         Sorted {
             order,
             rows: Slab::new(alloc),
-            paths: Vec::new(alloc),
-            places: Vec::new(alloc),
+            paths: SlotList::new(alloc),
+            places: SlotList::new(alloc),
         }
     }
 
@@ -124,7 +125,7 @@ impl Sorted {
     pub fn is_empty(&self) -> bool
         ensures { result ≡ (length self.now.rows == 0) }
     {
-        self.places.is_empty()
+        self.places.len() == 0
     }
 
     /// The order of the rows.
@@ -134,14 +135,14 @@ impl Sorted {
         &self.order
     }
 
-    /// Puts the rows in another order. Takes no memory as yet.
+    /// Puts the rows in another order.
     pub fn set_order(&mut self, order: Order) -> Result<(), AllocError>
         ensures rows { OnOk result (IsInOrder order self.old.rows self.new.rows) }
         ensures order { OnOk result (self.new.order ≡ order) }
         ensures spare { self.old.spare ≤ self.new.spare }
         ensures err { OnErr result (self.new ≡ self.old) }
     {
-        index::sort(order.keys(), &self.rows, &mut self.places);
+        self.places = index::sorted(order.keys(), &self.rows, &self.paths, &self.places)?;
         self.order = order;
         Ok(())
     }

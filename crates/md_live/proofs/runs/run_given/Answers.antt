@@ -1,53 +1,11 @@
-use Rattle.std.proofs.Common.{◌≡◌, ◌⊎◌, inl, inr, suc, ◌∷◌, List, length, sym, ◌∙◌, ap, arith, Option}
-use Rattle.std.specs.Iterator.Adapters.{zip_first, zip_second}
-use Rattle.std.specs.Slice.Iter.{iter_rest}
-use Rattle.std.specs.Vec.Iter.{into_iter_items}
-use Rattle.md_files.specs.declared.asking.Asked.{Asked}
-use Rattle.md_script.specs.declared.script.Line.{Line}
-use Rattle.md_live.specs.Actions.{Action, action_of, actions_of}
-use Rattle.md_live.specs.Telling.{Telling, after_action}
-use Rattle.md_live.proofs.Telling.{after_actions, told_all, none_left, few_after}
+use Rattle.std.proofs.Common.{ap, ◌∙◌}
+use Rattle.md_live.specs.Actions.{actions_of}
+use Rattle.md_live.specs.Telling.{Telling}
+use Rattle.md_live.proofs.Telling.{told_all}
 use Rattle.md_live.proofs.runs.run_given.Goals as goal
-
-pub loop-line-preserved : goal.loop-line-preserved
-loop-line-preserved c =
-    let now = c.args.setting.now.moment in
-    let offset = c.args.setting.now.offset in
-    let l = c.loop-line in
-    let line = c.in-Some.line.now in
-    let given = c.in-Some.given in
-    let lines = iter_rest (zip_first c.next.new.self) in
-    let givens = into_iter_items (zip_second c.next.new.self) in
-    let steps = c.in-Some.ensures.steps in
-    let first : iter_rest (zip_first l.line-iterator) ≡ line ∷ lines = steps.0 in
-    let second : into_iter_items (zip_second l.line-iterator) ≡ given ∷ givens = steps.1.0 in
-    let new : c.line.new.self ≡ after_action l.session (action_of now offset line given) = c.in_ok-line.ensures in
-    let places : c.line.new.self.next ≡ (after_action l.session (action_of now offset line given)).next = ap (λ (t : Telling). t.next) new in
-    let shorter : length (iter_rest (zip_first l.line-iterator)) ≡ suc (length lines) = ap length first in
-    let fewer : length (into_iter_items (zip_second l.line-iterator)) ≡ suc (length givens) = ap length second in
-    let few = l.invariant.few in
-    let long = l.invariant.long in
-    record {
-      few = omega (arith, few, places, shorter, few_after l.session (action_of now offset line given));
-      long = omega (arith, long, fewer, steps.1.1);
-      rest = ap (λ (t : Telling). after_actions t (actions_of now offset lines givens)) new
-          ∙ sym (ap (λ (ls : List Line). after_actions l.session (actions_of now offset ls (into_iter_items (zip_second l.line-iterator)))) first
-          ∙ ap (λ (gs : List (Option Asked)). after_actions l.session (actions_of now offset (line ∷ lines) gs)) second)
-          ∙ l.invariant.rest;
-    }
 
 pub returns : goal.returns
 returns c =
-    let now = c.args.setting.now.moment in
-    let offset = c.args.setting.now.offset in
-    let l = c.loop-line in
-    let lines = iter_rest (zip_first l.line-iterator) in
-    let givens = into_iter_items (zip_second l.line-iterator) in
-    let ended : (length lines ≡ 0) ⊎ (length givens ≡ 0) = elim c.in-None.ensures.steps [
-      | inl e ↦ inl e.1.0
-      | inr e ↦ inr (sym l.invariant.long ∙ e.1.0)
-    ] in
     c.into_report.ensures
-    ∙ sym (ap (λ (actions : List Action). (after_actions l.session actions).report) (none_left now offset lines givens ended))
-    ∙ ap (λ (t : Telling). t.report) l.invariant.rest
-    ∙ told_all (actions_of now offset c.args.lines.now c.args.givens.items)
+    ∙ ap (λ (t : Telling). t.report) c.in_ok-session.ensures
+    ∙ told_all (actions_of c.args.setting.now.moment c.args.setting.now.offset c.args.lines.now c.args.givens.items)

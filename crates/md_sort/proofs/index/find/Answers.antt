@@ -4,5 +4,5 @@ use Rattle.md_sort.specs.Slots.{rows_at}
 use Rattle.md_sort.proofs.Placed.{not_there}
 use Rattle.md_sort.proofs.index.find.Goals as goal
 
-pub returns-else-has_at : goal.returns-else-has_at
-returns-else-has_at c = let none = not_there c.args.path.now (rows_at (get c.args.rows.now) c.args.paths.now) c.requires.ordered in search rules
+pub returns-else-has_at-clause-found : goal.returns-else-has_at-clause-found
+returns-else-has_at-clause-found c = let none = not_there c.args.path.now (rows_at (get c.args.rows.now) c.args.paths.now.items) c.requires.ordered in search rules

@@ -8,7 +8,7 @@ use Rattle.md_sort.proofs.index.set.Goals as goal
 
 pub put_in-requires-clause-absent : goal.put_in-requires-clause-absent
 put_in-requires-clause-absent c =
-    subst (λ rows. has_path rows c.args.row.path ≡ false) (sym c.take_out.ensures.rows) (none_left c.args.row.path (rows_at (get c.args.rows.now) c.args.places.now.items))
+    subst (λ rows. has_path rows c.args.row.path ≡ false) (sym c.clear_place-by_path.ensures.rows) (none_left c.args.row.path (rows_at (get c.args.rows.now) c.args.places.now.items))
 
 pub returns-clause-rows : goal.returns-clause-rows
 returns-clause-rows c =
@@ -16,4 +16,4 @@ returns-clause-rows c =
     let rows = rows_at (get c.args.rows.now) c.args.places.now.items in
     let set = set_kept keys c.args.row rows c.requires.indexed.kept in
     subst (λ after. IsInOrder keys (with_row rows c.args.row) after) (sym c.put_in.ensures.rows)
-    (subst (λ others. IsInOrder keys (with_row rows c.args.row) (with_placed keys c.args.row others)) (sym c.take_out.ensures.rows) set.1)
+    (subst (λ others. IsInOrder keys (with_row rows c.args.row) (with_placed keys c.args.row others)) (sym c.clear_place-by_path.ensures.rows) set.1)

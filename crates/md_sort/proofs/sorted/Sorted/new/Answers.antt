@@ -6,5 +6,5 @@ use Rattle.md_sort.proofs.sorted.Sorted.new.Goals as goal
 
 pub invariant_of-result : goal.invariant_of-result
 invariant_of-result c =
-    subst (λ slots. AreIndexed c.args.order (get c.new.result) slots c.new-3.result.items) (sym c.new-2.ensures.items)
-    (subst (λ slots. AreIndexed c.args.order (get c.new.result) [] slots) (sym c.new-3.ensures.items) (none_indexed c.args.order (get c.new.result)))
+    subst (λ slots. AreIndexed c.args.order (get c.new.result) slots c.new-3.result.items) (sym c.new-2.ensures)
+    (subst (λ slots. AreIndexed c.args.order (get c.new.result) [] slots) (sym c.new-3.ensures) (none_indexed c.args.order (get c.new.result)))

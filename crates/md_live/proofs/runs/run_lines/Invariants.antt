@@ -3,9 +3,8 @@ use Rattle.std.specs.Iterator.Adapters.{zip_first, zip_second}
 use Rattle.std.specs.Slice.Iter.{iter_rest}
 use Rattle.std.specs.Vec.Iter.{into_iter_items, into_iter_len}
 use Rattle.md_live.specs.Actions.{actions_of}
-use Rattle.md_live.specs.Telling.{untold}
-use Rattle.md_live.proofs.Telling.{after_actions}
-use Rattle.md_live.proofs.runs.run_given.Given as goal
+use Rattle.md_live.specs.Telling.{untold, after_actions}
+use Rattle.md_live.proofs.runs.run_lines.Given as goal
 
 -- what is told so far, with all that is left to be done, is what is told of all that the lines do
 abbrev pub invariant-loop-line : goal.invariant-loop-line

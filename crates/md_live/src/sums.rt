@@ -1,0 +1,70 @@
+// What the run of a script comes to, in numbers.
+ghost use Rattle.std.specs.Prelude.{◌≡◌, ◌≤◌, IfOk, length};
+ghost use Rattle.md_value.specs.Values.{IsMoment};
+ghost use Rattle.md_live.specs.Actions.{actions_of};
+ghost use Rattle.md_live.specs.Events.{run_events};
+ghost use Rattle.md_live.specs.Sums.{Sums, sum_of};
+
+use crate::given::give_all;
+use crate::runs::run_lines;
+use crate::session::Setting;
+use crate::tally::Tally;
+use md_files::Asked;
+use md_script::Line;
+use md_source::Tree;
+use md_value::Items;
+use std::alloc::{AllocError, Global};
+
+/// What a run comes to.
+#[derive(Debug, Drop)]
+pub struct Sum {
+    /// How many events there were.
+    pub events: u64,
+    /// The newest version's number.
+    pub version: u32,
+    /// How many rows that version's table has.
+    pub rows: usize,
+    pub tally: Tally,
+    /// How many rows each of the clients holds by its query 1 that were asked about.
+    pub held: Items<usize>,
+}
+
+// Sums up the run of the lines, with what was given to each.
+fn sum_given(
+    alloc: Global,
+    setting: &Setting,
+    lines: &[Line],
+    givens: Vec<Option<Asked>>,
+    clients: &[u8],
+) -> Result<Sum, AllocError>
+    requires few { length lines.now ≤ 100_000 }
+    requires moment { IsMoment setting.now.moment }
+    ensures { IfOk result (λ sum. sum ≡ sum_of (run_events (actions_of setting.now.moment setting.now.offset lines.now givens.items)) clients.now) }
+{
+    let session = run_lines(alloc, setting, lines, givens)?;
+    session.sum(alloc, clients)
+}
+
+/// Runs these lines as [`run`](crate::run) does, and sums up the run in place of a report, with how many rows each of the
+/// clients holds by its query 1 at the end. Fails only where memory runs out.
+pub fn sum_up<T: Tree>(
+    alloc: Global,
+    tree: &mut T,
+    now: i64,
+    offset: i32,
+    lines: &[Line],
+    clients: &[u8],
+) -> Result<Sum, AllocError>
+    requires few { length lines.now ≤ 100_000 }
+    requires moment { IsMoment now }
+    ensures sums { IfOk result (λ sum. Sums (T.content tree.old) (T.faults tree.old) (T.faults tree.new) now offset lines.now clients.now sum) }
+    ensures later { T.faults tree.old ≤ T.faults tree.new }
+    ensures content { T.content tree.new ≡ T.content tree.old }
+{
+    let givens = give_all(alloc, tree, offset, lines)?;
+    let setting = Setting {
+        moment: now,
+        offset,
+    };
+    sum_given(alloc, &setting, lines, givens, clients)
+}
