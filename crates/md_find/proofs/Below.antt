@@ -1,9 +1,10 @@
 -- What is found below a folder.
-use Rattle.std.proofs.Common.{◌≡◌, ◌<◌, ℕ, List, length, sym, subst, Option, Some, None, IfSome, IsPermutation}
+use Rattle.std.proofs.Common.{◌≡◌, ◌<◌, ℕ, List, length, sym, subst, Option, Some, None}
 use Rattle.std.proofs.lemmas.List.Sorted.{length_permutation}
 use Rattle.md_value.specs.Values.{PathBytes}
 use Rattle.md_source.specs.Tree.{Content, entries_below}
 use Rattle.md_source.specs.declared.tree.Entry.{Entry}
+use Rattle.md_files.specs.Folders.{IsListed}
 use Rattle.md_machine.specs.declared.Spec.{Spec}
 use Rattle.md_find.specs.declared.finding.Search.{Search}
 use Rattle.md_find.specs.declared.finding.Output.{Output}
@@ -12,9 +13,9 @@ use Rattle.md_find.specs.Folders.{most_files, HasTooMany}
 use Rattle.md_find.specs.Finds.{query_of, form_out, Finds, asks, FindsBelow}
 
 -- a listing that is too long is that of a folder with too many files
-pub too_many : (told : Option Content) (path : PathBytes) (entries : List Entry) → IfSome told (λ content. IsPermutation (entries_below content.files path) entries) → most_files < length entries → HasTooMany told path
-too_many None path entries known many = tt
-too_many (Some content) path entries known many = subst (λ n. most_files < n) (length_permutation (entries_below content.files path) entries known) many
+pub too_many : (told : Option Content) (path : PathBytes) (entries : List Entry) → IsListed told path entries → most_files < length entries → HasTooMany told path
+too_many None path entries listed many = tt
+too_many (Some content) path entries listed many = subst (λ n. most_files < n) (length_permutation (entries_below content.files path) entries listed.known) many
 
 -- what is found by the query of a search
 pub finds_below : (told : Option Content) (before now : ℕ) (search : Search) (query : Spec) (output : Output) → query ≡ query_of search → form_out search ≡ None

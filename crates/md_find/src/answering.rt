@@ -1,7 +1,7 @@
 // A server with the rows of files, and the hits of a query that is asked of it.
 //
-// A new server has tickets and paths for all files of a folder that is searched, and no query. So the reply that is awaited
-// here always comes, or memory ran out; any other would be answered as want of memory too.
+// A folder that is searched has at most 1,000,000 files, and a new server has tickets and paths for as many, and no query.
+// So the reply that is awaited here always comes, or memory ran out; any other would be answered as want of memory too.
 ghost use Rattle.std.specs.Prelude.{◌≡◌, IfOk, OnOk};
 ghost use Rattle.md_world.specs.Tables.{IsTable, with_row};
 ghost use Rattle.md_machine.specs.Answers.{shown_answer};

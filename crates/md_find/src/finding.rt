@@ -13,9 +13,9 @@ ghost use Rattle.md_find.specs.Finds.{found_text, FindsAmong, FindsBelow, Finds,
 use crate::answering::{hits, loaded};
 use crate::parsing::{AskedFile, asked_files};
 use crate::printing::found_text;
-use crate::reading::read_files;
+use crate::reading::{list_files, read_files};
 use md_expr_tree::Expr;
-use md_files::{Asked, End, Report, in_path_order};
+use md_files::{Asked, End, Report};
 use md_machine::{Batch, Spec, TimeOutOfRange};
 use md_source::{Entry, ListEnd, Tree};
 use md_value::Path;
@@ -137,12 +137,11 @@ fn find_below<R: Threads + Sync, T: Tree>(
     ensures later { T.faults tree.old ≤ T.faults tree.new }
     ensures content { T.content tree.new ≡ T.content tree.old }
 {
-    match tree.list(alloc, &spec.scope) {
+    match list_files(alloc, tree, &spec.scope) {
         Ok(entries) => {
             if entries.len() > MOST_FILES {
                 return Ok(Found::Full);
             }
-            let entries = in_path_order(entries);
             let report = find_among(rt, alloc, tree, entries, spec, output)?;
             Ok(Found::Report(report))
         }

@@ -10,3 +10,6 @@ mod searching;
 
 pub use finding::{Found, MOST_FILES, Output, Search, find};
 pub use searching::search;
+
+#[cfg(test)]
+mod tests;

@@ -1,11 +1,13 @@
-// The files below a folder, read one after the other.
-ghost use Rattle.std.specs.Prelude.{◌≡◌, ◌≤◌, IfOk};
+// The files below a folder, listed and read one after the other.
+ghost use Rattle.std.specs.Prelude.{◌≡◌, ◌≤◌, IfOk, IsErrOf};
+ghost use Rattle.md_source.specs.Tree.{ListHasCause};
 ghost use Rattle.md_files.specs.Answers.{IsRead};
-ghost use Rattle.md_files.specs.Folders.{AreRead};
+ghost use Rattle.md_files.specs.Folders.{AreRead, HasNoFolder, IsListed};
 ghost use Rattle.md_find.specs.Files.{front_answer, entries_of, answers_of};
 
-use md_files::read_front;
-use md_source::{Entry, ReadEnd, Tree};
+use md_files::{in_path_order, read_front};
+use md_source::{Entry, ListEnd, ReadEnd, Tree};
+use md_value::Path;
 use std::alloc::{AllocError, Global};
 
 /// What a tree gives of a file.
@@ -24,6 +26,23 @@ pub enum Front {
 pub struct ReadFile {
     pub entry: Entry,
     pub front: Front,
+}
+
+/// The files below a folder, ascending by path.
+///
+/// `Absent` comes where the tree has no such folder, `Failed` where its call failed.
+pub fn list_files<T: Tree>(
+    alloc: Global,
+    tree: &mut T,
+    folder: &Path,
+) -> Result<Vec<Entry>, ListEnd>
+    ensures listed { IfOk result (λ entries. IsListed (T.content tree.old) folder.now entries.items) }
+    ensures absent { IsErrOf result ListEnd.Absent → HasNoFolder (T.content tree.old) folder.now }
+    ensures cause { ListHasCause (T.faults tree.old) (T.faults tree.new) result }
+    ensures content { T.content tree.new ≡ T.content tree.old }
+{
+    let entries = in_path_order(tree.list(alloc, folder)?);
+    Ok(entries)
 }
 
 fn read_file<T: Tree>(alloc: Global, tree: &mut T, entry: &Entry) -> Result<Front, AllocError>

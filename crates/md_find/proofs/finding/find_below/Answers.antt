@@ -1,42 +1,36 @@
 use Rattle.std.proofs.Common.{refl, ap, sym, arith, Err}
-use Rattle.std.proofs.lemmas.List.Sorted.{All-permutation, length_permutation}
-use Rattle.md_value.specs.Values.{IsMoment}
-use Rattle.md_source.specs.declared.tree.Entry.{Entry}
 use Rattle.md_files.specs.Folders.{AreRead}
-use Rattle.md_files.proofs.Orders.{listed}
 use Rattle.md_find.specs.declared.finding.Found.TheVariants.{Report}
 use Rattle.md_find.specs.Folders.{files, nothing, full}
 use Rattle.md_find.proofs.Below.{too_many}
 use Rattle.md_find.proofs.finding.find_below.Goals as goal
 
 pub returns-then-len-gt-MOST_FILES-clause-finds : goal.returns-then-len-gt-MOST_FILES-clause-finds
-returns-then-len-gt-MOST_FILES-clause-finds g c = record {
-  folder = full;
-  held = (c.in-Ok.ensures.cause, too_many (g.T.Tree.content c.args.tree.now) c.args.spec.scope c.in-Ok.entries.items c.in-Ok.ensures.entries (omega (arith, c.if-len-gt-MOST_FILES.true, c.len.ensures)));
-  is = refl;
-}
+returns-then-len-gt-MOST_FILES-clause-finds g c =
+    let told = g.T.Tree.content c.args.tree.now in
+    record {
+      folder = full;
+      held = (c.in-Ok.ensures.cause, too_many told c.args.spec.scope c.in-Ok.entries.items c.in-Ok.ensures.listed (omega (arith, c.if-len-gt-MOST_FILES.true, c.len.ensures)));
+      is = refl;
+    }
 
 pub find_among-requires-clause-moments : goal.find_among-requires-clause-moments
-find_among-requires-clause-moments g c = λ κs bounds.
-    All-permutation (λ (entry : Entry). IsMoment entry.changed) c.in-Ok.entries.items c.in_path_order-entries.result.items c.in_path_order-entries.ensures.same c.in-Ok.ensures.listing.moments
+find_among-requires-clause-moments g c = λ κs bounds. c.in-Ok.ensures.listed.listing.moments
+
+pub find_among-requires-clause-ordered : goal.find_among-requires-clause-ordered
+find_among-requires-clause-ordered g c = λ κs bounds. c.in-Ok.ensures.listed.ordered
 
 pub returns-in-Ok-clause-finds : goal.returns-in-Ok-clause-finds
 returns-in-Ok-clause-finds g c =
     let told = g.T.Tree.content c.args.tree.now in
     let before = g.T.Tree.faults c.args.tree.now in
     let now = g.T.Tree.faults c.find_among.new.tree in
-    let given = c.in-Ok.entries.items in
-    let entries = c.in_path_order-entries.result.items in
+    let entries = c.in-Ok.entries.items in
     let among = c.in_ok-report-in-Ok.ensures.found in
-    let moved = c.in_path_order-entries.ensures.same in
     let asked : AreRead told before now entries among.answers = rw (sym c.in-Ok.ensures.content, sym c.in-Ok.ensures.cause) among.asked in
     record {
       folder = files entries among.answers;
-      held = (
-        listed told c.args.spec.scope given entries c.in-Ok.ensures.listing c.in-Ok.ensures.folder c.in-Ok.ensures.entries moved c.in_path_order-entries.ensures.ordered,
-        omega (arith, c.if-len-gt-MOST_FILES.false, c.len.ensures, length_permutation given entries moved),
-        asked,
-      );
+      held = (c.in-Ok.ensures.listed, omega (arith, c.if-len-gt-MOST_FILES.false, c.len.ensures), asked);
       is = ap Report among.is;
     }
 
