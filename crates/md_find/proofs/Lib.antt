@@ -2,6 +2,7 @@ pub mod Parts
 pub mod Well
 pub mod Files
 pub mod Notes
-pub mod Among
+pub mod Joins
+pub mod Gathered
 pub mod Below
 pub mod Causes

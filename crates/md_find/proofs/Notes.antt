@@ -1,11 +1,18 @@
--- Reports, and one finding more.
-use Rattle.std.proofs.Common.{◌≡◌, ℕ, List, [], ◌∷◌, ◌++◌, append-nil, refl}
-use Rattle.std.proofs.lemmas.Grind.{flat_map-append}
+-- Reports, and findings more.
+use Rattle.std.proofs.Common.{◌≡◌, List, [], ◌∷◌, ◌++◌, ◌∙◌, ap}
 use Rattle.md_files.specs.Additions.{noted}
-use Rattle.md_files.specs.Findings.{Finding, err_line}
-use Rattle.md_files.specs.Reports.{report_of}
-use Rattle.md_files.proofs.Additions.{end_of-append}
+use Rattle.md_files.specs.Findings.{Finding}
+use Rattle.md_files.specs.Reports.{Report}
+use Rattle.md_files.proofs.Additions.{counted_one, counted_none, counted_more}
+use Rattle.md_find.specs.Notes.{noted_all}
 
-pub noted_more : (text : List ℕ) (findings : List Finding) (finding : Finding) → noted (report_of text findings) finding ≡ report_of text (findings ++ finding ∷ [])
-noted_more text findings finding =
-    rw (end_of-append findings (finding ∷ []), flat_map-append err_line findings (finding ∷ []), append-nil (err_line finding)) refl
+module _ (report : Report) where
+  pub noted_none : report ≡ noted_all report []
+  noted_none = ap (λ (r : Report). record r { out = report.out }) (counted_none report)
+
+  pub noted_join : (findings others : List Finding) → noted_all (noted_all report findings) others ≡ noted_all report (findings ++ others)
+  noted_join findings others = ap (λ (r : Report). record r { out = report.out }) (counted_more report findings others)
+
+  pub noted_more : (findings : List Finding) (finding : Finding) → noted (noted_all report findings) finding ≡ noted_all report (findings ++ finding ∷ [])
+  noted_more findings finding =
+      ap (λ (r : Report). record r { out = report.out }) (counted_one (noted_all report findings) finding) ∙ noted_join findings (finding ∷ [])

@@ -2,7 +2,7 @@
 //
 // A folder that is searched has at most 1,000,000 files, and a new server has tickets and paths for as many, and no query.
 // So the reply that is awaited here always comes, or memory ran out; any other would be answered as want of memory too.
-ghost use Rattle.std.specs.Prelude.{◌≡◌, IfOk, OnOk};
+ghost use Rattle.std.specs.Prelude.{◌≡◌, ◌++◌, IfOk, OnOk};
 ghost use Rattle.md_world.specs.Tables.{IsTable, with_row};
 ghost use Rattle.md_machine.specs.Answers.{shown_answer};
 ghost use Rattle.md_machine.specs.declared.TheConstants.Batch.{NONE};
@@ -14,7 +14,7 @@ use md_files::Asked;
 use md_hub::Hub;
 use md_machine::{Event, Reply, Spec};
 use md_value::{Attrs, Path};
-use md_world::{Change, Limits, Rows};
+use md_world::{Change, Rows};
 use std::alloc::{AllocError, Global};
 
 // Commits a row by a ticket of its own.
@@ -46,17 +46,18 @@ fn put_file(alloc: Global, hub: &mut Hub, file: AskedFile) -> Result<(), AllocEr
     }
 }
 
-/// A server with the rows of the files that give attributes. Fails only where memory runs out.
-pub fn loaded(alloc: Global, files: Vec<AskedFile>) -> Result<Hub, AllocError>
-    requires { IsTable (rows_of files.items) }
-    ensures table { IfOk result (λ hub. hub.table ≡ rows_of files.items) }
-    ensures idle { IfOk result IsIdle }
+/// Commits the rows of the files that give attributes, which go on where the server's rows end. Fails only where memory runs
+/// out.
+pub fn load(alloc: Global, hub: &mut Hub, files: Vec<AskedFile>) -> Result<(), AllocError>
+    requires idle { IsIdle hub.old }
+    requires table { IsTable (hub.old.table ++ rows_of files.items) }
+    ensures table { OnOk result (hub.new.table ≡ hub.old.table ++ rows_of files.items) }
+    ensures idle { OnOk result (IsIdle hub.new) }
 {
-    let mut hub = Hub::new(alloc, Limits::STANDARD);
     for file in files {
-        put_file(alloc, &mut hub, file)?;
+        put_file(alloc, hub, file)?;
     }
-    Ok(hub)
+    Ok(())
 }
 
 /// All hits of a query that has no batches, as shown rows in path order. Fails only where memory runs out.

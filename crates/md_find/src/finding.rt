@@ -1,5 +1,5 @@
 // The run of `mdfind`.
-ghost use Rattle.std.specs.Prelude.{◌≡◌, ◌∷◌, [], ◌≤◌, ◌<◌, true, false, All, AllPairs, IfOk, IfSome, None, length, map};
+ghost use Rattle.std.specs.Prelude.{◌≡◌, ◌∷◌, [], ◌≤◌, ◌<◌, true, false, All, AllPairs, IfOk, OnOk, IfSome, None, length, map};
 ghost use Rattle.md_value.specs.Values.{IsMoment, is_before};
 ghost use Rattle.md_source.specs.Causes.{Rose};
 ghost use Rattle.md_source.specs.Tree.{has_folder, entries_below};
@@ -8,23 +8,29 @@ ghost use Rattle.md_files.specs.Reports.{report_of};
 ghost use Rattle.md_machine.specs.declared.TheConstants.Batch.{NONE};
 ghost use Rattle.md_find.specs.Files.{finding_of};
 ghost use Rattle.md_find.specs.Folders.{most_files};
+ghost use Rattle.md_find.specs.Notes.{noted_all};
 ghost use Rattle.md_find.specs.Finds.{found_text, FindsAmong, FindsBelow, Finds, HasCause, EndsBy, form_out, form_told};
 
-use crate::answering::{hits, loaded};
+use crate::answering::{hits, load};
 use crate::parsing::{AskedFile, asked_files};
 use crate::printing::found_text;
 use crate::reading::{list_files, read_files};
 use md_expr_tree::Expr;
 use md_files::{Asked, End, Report};
+use md_hub::Hub;
 use md_machine::{Batch, Spec, TimeOutOfRange};
 use md_source::{Entry, ListEnd, Tree};
 use md_value::Path;
-use md_world::Order;
+use md_world::{Limits, Order};
 use std::alloc::{AllocError, Global};
 use std::thread::Threads;
 
 /// The most files of a folder that is searched.
 pub const MOST_FILES: usize = 1_000_000;
+
+/// The most files that are read before they are imported and put into the server. The bytes of no more files are held at
+/// once.
+const BATCH: usize = 1_000;
 
 /// What is searched for, and where.
 #[derive(Drop)]
@@ -61,15 +67,14 @@ pub enum Found {
     OutOfRange(u32),
 }
 
-// What became of files, and nothing for out.
-fn report_on(alloc: Global, files: &[AskedFile]) -> Result<Report, AllocError>
-    ensures { IfOk result (λ report. report ≡ report_of [] (map finding_of files.now)) }
+// Adds what became of files to a report.
+fn note(alloc: Global, report: &mut Report, files: &[AskedFile]) -> Result<(), AllocError>
+    ensures { OnOk result (report.new ≡ noted_all report.old (map finding_of files.now)) }
 {
-    let mut report = Report::new(alloc);
     for file in files {
         report.add_listed(alloc, &file.path, &file.asked)?;
     }
-    Ok(report)
+    Ok(())
 }
 
 // What is found among these files.
@@ -77,21 +82,25 @@ fn find_among<R: Threads + Sync, T: Tree>(
     rt: &R,
     alloc: Global,
     tree: &mut T,
-    entries: Vec<Entry>,
+    entries: &[Entry],
     spec: Spec,
     output: Output,
 ) -> Result<Report, AllocError>
-    requires moments { All (λ entry. IsMoment entry.changed) entries.items }
-    requires ordered { AllPairs (λ entry other. is_before entry.path other.path ≡ true) entries.items }
+    requires moments { All (λ entry. IsMoment entry.changed) entries.now }
+    requires ordered { AllPairs (λ entry other. is_before entry.path other.path ≡ true) entries.now }
     requires batch { spec.batch ≡ NONE }
-    ensures found { IfOk result (λ report. FindsAmong (T.content tree.old) (T.faults tree.old) (T.faults tree.new) spec output entries.items report) }
+    ensures found { IfOk result (λ report. FindsAmong (T.content tree.old) (T.faults tree.old) (T.faults tree.new) spec output entries.now report) }
     ensures later { T.faults tree.old ≤ T.faults tree.new }
     ensures content { T.content tree.new ≡ T.content tree.old }
 {
-    let files = read_files(alloc, tree, entries)?;
-    let files = asked_files(rt, alloc, files, spec.offset)?;
-    let mut report = report_on(alloc, &files)?;
-    let mut hub = loaded(alloc, files)?;
+    let mut report = Report::new(alloc);
+    let mut hub = Hub::new(alloc, Limits::STANDARD);
+    for batch in entries.chunks(BATCH) {
+        let files = read_files(alloc, tree, batch)?;
+        let files = asked_files(rt, alloc, files, spec.offset)?;
+        note(alloc, &mut report, &files)?;
+        load(alloc, &mut hub, files)?;
+    }
     let rows = hits(alloc, &mut hub, spec)?;
     let text = found_text(alloc, output, rows.as_slice())?;
     report.push_out(text.as_str())?;
@@ -142,7 +151,7 @@ fn find_below<R: Threads + Sync, T: Tree>(
             if entries.len() > MOST_FILES {
                 return Ok(Found::Full);
             }
-            let report = find_among(rt, alloc, tree, entries, spec, output)?;
+            let report = find_among(rt, alloc, tree, &entries, spec, output)?;
             Ok(Found::Report(report))
         }
         Err(ListEnd::Absent) => Ok(Found::Report(absent(alloc, &spec.scope, output)?)),
@@ -153,7 +162,8 @@ fn find_below<R: Threads + Sync, T: Tree>(
 
 /// Asks a tree for the files below the search's folder, imports them, and makes the text of the paths of those that
 /// satisfy the expression, ascending by bytes. The forms of time are told first; where one is out of range, the tree is not
-/// asked. The files are read by this thread in path order and imported in as many threads as there are processors.
+/// asked. The files are read by this thread in path order and imported in as many threads as there are processors, at most
+/// 1,000 at a time.
 ///
 /// A file with a fault of its content has a line on err and is not among the files that are searched; so it is with one that
 /// could not be read. A file that is absent when it is read is passed over. A folder that is absent or could not be listed

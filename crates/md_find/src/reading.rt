@@ -7,7 +7,7 @@ ghost use Rattle.md_find.specs.Files.{front_answer, entries_of, answers_of};
 
 use md_files::{in_path_order, read_front};
 use md_source::{Entry, ListEnd, ReadEnd, Tree};
-use md_value::Path;
+use md_value::{Copied, Path};
 use std::alloc::{AllocError, Global};
 
 /// What a tree gives of a file.
@@ -62,16 +62,17 @@ fn read_file<T: Tree>(alloc: Global, tree: &mut T, entry: &Entry) -> Result<Fron
 pub fn read_files<T: Tree>(
     alloc: Global,
     tree: &mut T,
-    entries: Vec<Entry>,
+    entries: &[Entry],
 ) -> Result<Vec<ReadFile>, AllocError>
-    ensures entries { IfOk result (λ files. entries_of files.items ≡ entries.items) }
-    ensures read { IfOk result (λ files. AreRead (T.content tree.old) (T.faults tree.old) (T.faults tree.new) entries.items (answers_of files.items)) }
+    ensures entries { IfOk result (λ files. entries_of files.items ≡ entries.now) }
+    ensures read { IfOk result (λ files. AreRead (T.content tree.old) (T.faults tree.old) (T.faults tree.new) entries.now (answers_of files.items)) }
     ensures later { T.faults tree.old ≤ T.faults tree.new }
     ensures content { T.content tree.new ≡ T.content tree.old }
 {
     let mut files = Vec::new(alloc);
     for entry in entries {
-        let front = read_file(alloc, tree, &entry)?;
+        let front = read_file(alloc, tree, entry)?;
+        let entry = entry.copy(alloc)?;
         files.push(ReadFile { entry, front })?;
     }
     Ok(files)

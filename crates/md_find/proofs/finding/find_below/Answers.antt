@@ -1,5 +1,5 @@
-use Rattle.std.proofs.Common.{refl, ap, sym, arith, Err}
-use Rattle.md_files.specs.Folders.{AreRead}
+use Rattle.std.proofs.Common.{length, refl, ap, sym, arith, Err}
+use Rattle.md_files.specs.Folders.{IsListed, AreRead}
 use Rattle.md_find.specs.declared.finding.Found.TheVariants.{Report}
 use Rattle.md_find.specs.Folders.{files, nothing, full}
 use Rattle.md_find.proofs.Below.{too_many}
@@ -15,22 +15,23 @@ returns-then-len-gt-MOST_FILES-clause-finds g c =
     }
 
 pub find_among-requires-clause-moments : goal.find_among-requires-clause-moments
-find_among-requires-clause-moments g c = λ κs bounds. c.in-Ok.ensures.listed.listing.moments
+find_among-requires-clause-moments g c = λ κs bounds. rw c.deref.ensures.value c.in-Ok.ensures.listed.listing.moments
 
 pub find_among-requires-clause-ordered : goal.find_among-requires-clause-ordered
-find_among-requires-clause-ordered g c = λ κs bounds. c.in-Ok.ensures.listed.ordered
+find_among-requires-clause-ordered g c = λ κs bounds. rw c.deref.ensures.value c.in-Ok.ensures.listed.ordered
 
 pub returns-in-Ok-clause-finds : goal.returns-in-Ok-clause-finds
 returns-in-Ok-clause-finds g c =
     let told = g.T.Tree.content c.args.tree.now in
     let before = g.T.Tree.faults c.args.tree.now in
     let now = g.T.Tree.faults c.find_among.new.tree in
-    let entries = c.in-Ok.entries.items in
+    let entries = c.deref.result.now in
     let among = c.in_ok-report-in-Ok.ensures.found in
+    let listed : IsListed told c.args.spec.scope entries = rw c.deref.ensures.value c.in-Ok.ensures.listed in
     let asked : AreRead told before now entries among.answers = rw (sym c.in-Ok.ensures.content, sym c.in-Ok.ensures.cause) among.asked in
     record {
       folder = files entries among.answers;
-      held = (c.in-Ok.ensures.listed, omega (arith, c.if-len-gt-MOST_FILES.false, c.len.ensures), asked);
+      held = (listed, omega (arith, c.if-len-gt-MOST_FILES.false, c.len.ensures, ap length c.deref.ensures.value), asked);
       is = ap Report among.is;
     }
 

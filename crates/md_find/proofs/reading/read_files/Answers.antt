@@ -1,6 +1,6 @@
-use Rattle.std.proofs.Common.{◌≡◌, [], ◌∷◌, ◌++◌, sym, ◌∙◌, ap, subst, append_assoc, arith}
-use Rattle.std.specs.Vec.Iter.{into_iter_items}
-use Rattle.std.proofs.lemmas.List.{map-append}
+use Rattle.std.proofs.Common.{◌≡◌, ◌+◌, [], ◌∷◌, ◌++◌, take, sym, ◌∙◌, ap, arith}
+use Rattle.std.proofs.lemmas.List.{map-append, take_more}
+use Rattle.md_source.specs.declared.tree.Entry.{Entry}
 use Rattle.md_files.specs.Answers.{IsRead}
 use Rattle.md_files.specs.Folders.{AreRead}
 use Rattle.md_files.proofs.Turns.{in_turn_more}
@@ -12,23 +12,24 @@ pub loop-entry-preserved : goal.loop-entry-preserved
 loop-entry-preserved g c =
     let l = c.loop-entry in
     let before = l.invariant in
-    let entry = c.in-Some.entry in
+    let entries = c.args.entries.now in
+    let entry = c.entry-item.result in
     let front = c.in_ok-front.front in
     let file : ReadFile = record { entry = entry; front = front } in
     let told = g.T.Tree.content c.args.tree.now in
-    let rest = into_iter_items c.next.new.self in
-    let step : into_iter_items l.entry-iterator ≡ entry ∷ rest = c.in-Some.ensures.steps.0 in
-    let pushed : c.push.new.self.items ≡ l.files.items ++ file ∷ [] = c.in_ok-push.ensures.items in
     let was = g.T.Tree.faults c.args.tree.now in
     let between = g.T.Tree.faults l.tree in
     let now = g.T.Tree.faults c.read_file.new.tree in
+    let pushed : c.push.new.self.items ≡ l.files.items ++ file ∷ [] = rw (sym c.in_ok-entry.ensures) c.in_ok-push.ensures.items in
+    let more : take (l.entry-index + 1) entries ≡ take l.entry-index entries ++ entry ∷ [] =
+    take_more entries l.entry-index entry c.loop-entry-test.true ∙ ap (λ (x : Entry). take l.entry-index entries ++ x ∷ []) (sym c.entry-item.is) in
     let read : IsRead told between now entry (front_answer entry front) = rw (sym before.content) c.in_ok-front.ensures.read in
     let answers : answers_of c.push.new.self.items ≡ answers_of l.files.items ++ front_answer entry front ∷ [] = ap answers_of pushed ∙ map-append answer_of l.files.items (file ∷ []) in
+    let all : AreRead told was now (take (l.entry-index + 1) entries) (answers_of c.push.new.self.items) =
+    rw (more, answers) (in_turn_more (IsRead told) was between now (take l.entry-index entries) (answers_of l.files.items) entry (front_answer entry front) before.read read) in
     record {
-      front = append_assoc l.yielded (entry ∷ []) rest ∙ ap (λ entries. l.yielded ++ entries) (sym step) ∙ before.front;
-      entries = ap entries_of pushed ∙ map-append (λ (f : ReadFile). f.entry) l.files.items (file ∷ []) ∙ ap (λ entries. entries ++ entry ∷ []) before.entries;
-      read = subst (λ (all : _). AreRead told was now (l.yielded ++ entry ∷ []) all) (sym answers)
-          (in_turn_more (IsRead told) was between now l.yielded (answers_of l.files.items) entry (front_answer entry front) before.read read);
+      entries = ap entries_of pushed ∙ map-append (λ (f : ReadFile). f.entry) l.files.items (file ∷ []) ∙ ap (λ entries. entries ++ entry ∷ []) before.entries ∙ sym more;
+      read = all;
       content = c.in_ok-front.ensures.content ∙ before.content;
       later = omega (arith, before.later, c.in_ok-front.ensures.later);
     }
