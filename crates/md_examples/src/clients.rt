@@ -1,9 +1,10 @@
 // Scripts that show what clients hold.
 use crate::runs::{ending, live};
 use std::test::Fail;
+use std::thread::Threads;
 
 // Runs a script, and says how that ended.
-fn told(rt: HostRuntime, script: &str) -> Result<String, Fail> {
+fn told(rt: &(impl Threads + Sync + AllocGlobal), script: &str) -> Result<String, Fail> {
     let ran = live(rt, script.as_bytes())?;
     ending(rt.alloc(), &ran)
 }
@@ -21,10 +22,13 @@ fn clients_hold_their_hits_in_order(rt: HostRuntime) -> Result<(), Fail> {
             "0|1 ticket 1 b.json\n2 committed 1 1\n3 ticket 2 a.json\n4 committed 2 2\n5 ticket 3 c.json\n6 committed 3 3\n7 c0 q1 created 3\n8 c0 q1 finished 3 3\n  a.json\n  b.json\n  c.json\nc0 q1 holds 3 3\n  c.json\n  a.json\n  b.json\nc1 q1 holds nothing\n|",
         ),
         // It is no event.
-        ("c0 show 3\nc0 poll 3\n", "0|c0 q3 holds nothing\n1 c0 q3 no-query\n|"),
+        (
+            "c0 show 3\nc0 poll 3\n",
+            "0|c0 q3 holds nothing\n1 c0 q3 no-query\n|",
+        ),
     ];
     for (script, want) in rows {
-        assert_eq!(rt; told(rt, script)?.as_str(), want);
+        assert_eq!(rt; told(&rt, script)?.as_str(), want);
     }
     Ok(())
 }
@@ -77,6 +81,6 @@ c0 q1 holds 2 4
   b.txt
   d\\\\e.txt
 |";
-    assert_eq!(rt; told(rt, script)?.as_str(), want);
+    assert_eq!(rt; told(&rt, script)?.as_str(), want);
     Ok(())
 }

@@ -9,7 +9,7 @@ fn a_script_that_fails_is_a_read_fault(rt: HostRuntime) -> Result<(), Fail> {
     for call in [0, 1] {
         let mut fails = no_fails(alloc);
         fails.script.push(call)?;
-        let ran = run_words(rt, &["live"], FIRST_SCRIPT.as_bytes(), fails)?;
+        let ran = run_words(&rt, &["live"], FIRST_SCRIPT.as_bytes(), fails)?;
         assert_eq!(rt; ran.status, Status::ReadFault);
         assert_eq!(rt;
             ran.err.taken(),
@@ -29,7 +29,7 @@ fn a_clock_that_fails_is_a_read_fault(rt: HostRuntime) -> Result<(), Fail> {
     ] {
         let mut fails = no_fails(alloc);
         fails.clock.push(call)?;
-        let ran = run_words(rt, &["live"], b"", fails)?;
+        let ran = run_words(&rt, &["live"], b"", fails)?;
         assert_eq!(rt; ran.status, status);
         assert_eq!(rt; ran.err.taken(), err.as_bytes());
     }
@@ -37,7 +37,7 @@ fn a_clock_that_fails_is_a_read_fault(rt: HostRuntime) -> Result<(), Fail> {
     let mut fails = no_fails(alloc);
     fails.clock.push(0)?;
     assert_eq!(rt;
-        run_words(rt, &["live"], b"x", fails)?.status,
+        run_words(&rt, &["live"], b"x", fails)?.status,
         Status::Script
     );
     Ok(())
@@ -51,13 +51,13 @@ fn an_out_that_fails_has_a_front_of_the_journal(rt: HostRuntime) -> Result<(), F
     for call in 0..calls {
         let mut fails = no_fails(alloc);
         fails.out.push(call as u64)?;
-        let ran = run_words(rt, &["live"], FIRST_SCRIPT.as_bytes(), fails)?;
+        let ran = run_words(&rt, &["live"], FIRST_SCRIPT.as_bytes(), fails)?;
         assert_eq!(rt; ran.status, Status::WriteFault);
         assert_eq!(rt; ran.out.taken(), &journal[..call * 4]);
     }
     let mut fails = no_fails(alloc);
     fails.out.push(calls as u64)?;
-    let ran = run_words(rt, &["live"], FIRST_SCRIPT.as_bytes(), fails)?;
+    let ran = run_words(&rt, &["live"], FIRST_SCRIPT.as_bytes(), fails)?;
     assert_eq!(rt; ran.status, Status::Ok);
     Ok(())
 }
@@ -67,7 +67,7 @@ fn an_err_that_fails_leaves_out_empty(rt: HostRuntime) -> Result<(), Fail> {
     let alloc = rt.alloc();
     let mut fails = no_fails(alloc);
     fails.err.push(2)?;
-    let ran = run_words(rt, &["live"], b"x\n", fails)?;
+    let ran = run_words(&rt, &["live"], b"x\n", fails)?;
     assert_eq!(rt; ran.status, Status::WriteFault);
     assert_eq!(rt; ran.err.taken(), b"mdserve:".as_slice());
     assert_eq!(rt; ran.out.taken(), b"".as_slice());

@@ -2,9 +2,10 @@
 // server.
 use crate::runs::{ending, no_fails, run_over, tree_of};
 use std::test::Fail;
+use std::thread::Threads;
 
 // Runs words where each call on the tree, the script and the clock would fail.
-fn told(rt: HostRuntime, words: &[&str]) -> Result<String, Fail> {
+fn told(rt: &(impl Threads + Sync + AllocGlobal), words: &[&str]) -> Result<String, Fail> {
     let alloc = rt.alloc();
     let mut tree = tree_of(alloc, &[], Vec::from_slice(alloc, &[0])?)?;
     let mut fails = no_fails(alloc);
@@ -27,10 +28,13 @@ fn generated_runs_come_to_these_numbers(rt: HostRuntime) -> Result<(), Fail> {
         ),
         (&["gen", "7", "0"], "1||mdserve: words not understood\n"),
         (&["gen", "7", "10001"], "1||mdserve: words not understood\n"),
-        (&["gen", "18446744073709551616", "1"], "1||mdserve: words not understood\n"),
+        (
+            &["gen", "18446744073709551616", "1"],
+            "1||mdserve: words not understood\n",
+        ),
     ];
     for (words, want) in rows {
-        assert_eq!(rt; told(rt, words)?.as_str(), want);
+        assert_eq!(rt; told(&rt, words)?.as_str(), want);
     }
     Ok(())
 }

@@ -1,6 +1,7 @@
 // Scripts that import files of a tree.
 use crate::runs::{ending, no_fails, run_over, tree_of};
 use std::test::Fail;
+use std::thread::Threads;
 
 const FILES: [(&str, &str); 4] = [
     ("a.txt", "hi"),
@@ -10,7 +11,11 @@ const FILES: [(&str, &str); 4] = [
 ];
 
 // Runs a script over these files, in a tree that fails in its calls of these numbers, and says how that ended.
-fn told(rt: HostRuntime, script: &str, fails: &[u64]) -> Result<String, Fail> {
+fn told(
+    rt: &(impl Threads + Sync + AllocGlobal),
+    script: &str,
+    fails: &[u64],
+) -> Result<String, Fail> {
     let alloc = rt.alloc();
     let mut tree = tree_of(alloc, &FILES, Vec::from_slice(alloc, fails)?)?;
     let ran = run_over(rt, &mut tree, &["live"], script.as_bytes(), no_fails(alloc))?;
@@ -57,7 +62,7 @@ fn files_are_imported_from_the_tree(rt: HostRuntime) -> Result<(), Fail> {
         ),
     ];
     for (script, fails, want) in rows {
-        assert_eq!(rt; told(rt, script, fails)?.as_str(), want);
+        assert_eq!(rt; told(&rt, script, fails)?.as_str(), want);
     }
     Ok(())
 }

@@ -1,9 +1,10 @@
 // Scripts of queries in parts, disabled, stopped and in batches, and of files with faults.
 use crate::runs::{ending, live};
 use std::test::Fail;
+use std::thread::Threads;
 
 // Runs a script, and says how that ended.
-fn told(rt: HostRuntime, script: &str) -> Result<String, Fail> {
+fn told(rt: &(impl Threads + Sync + AllocGlobal), script: &str) -> Result<String, Fail> {
     let ran = live(rt, script.as_bytes())?;
     ending(rt.alloc(), &ran)
 }
@@ -32,7 +33,7 @@ fn disables_hold_updates(rt: HostRuntime) -> Result<(), Fail> {
         ),
     ];
     for (script, want) in rows {
-        assert_eq!(rt; told(rt, script)?.as_str(), want);
+        assert_eq!(rt; told(&rt, script)?.as_str(), want);
     }
     Ok(())
 }
@@ -56,7 +57,7 @@ fn hits_come_in_parts(rt: HostRuntime) -> Result<(), Fail> {
         ),
     ];
     for (script, want) in rows {
-        assert_eq!(rt; told(rt, script)?.as_str(), want);
+        assert_eq!(rt; told(&rt, script)?.as_str(), want);
     }
     Ok(())
 }
@@ -75,7 +76,7 @@ fn updates_wait_for_a_batch(rt: HostRuntime) -> Result<(), Fail> {
         ),
     ];
     for (script, want) in rows {
-        assert_eq!(rt; told(rt, script)?.as_str(), want);
+        assert_eq!(rt; told(&rt, script)?.as_str(), want);
     }
     Ok(())
 }
@@ -103,7 +104,7 @@ fn files_are_imported_as_they_are_put(rt: HostRuntime) -> Result<(), Fail> {
         ),
     ];
     for (script, want) in rows {
-        assert_eq!(rt; told(rt, script)?.as_str(), want);
+        assert_eq!(rt; told(&rt, script)?.as_str(), want);
     }
     Ok(())
 }

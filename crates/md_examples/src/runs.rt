@@ -4,6 +4,7 @@ use md_tool::{Status, run};
 use md_value::{Items, Path};
 use std::alloc::Global;
 use std::test::Fail;
+use std::thread::Threads;
 
 /// The first run: its script, and its journal.
 pub const FIRST_SCRIPT: &str = "put a.txt one
@@ -55,7 +56,7 @@ pub fn no_fails(alloc: Global) -> Fails {
 
 /// Runs these words over a tree.
 pub fn run_over(
-    rt: HostRuntime,
+    rt: &(impl Threads + Sync + AllocGlobal),
     tree: &mut MemoryTree,
     words: &[&str],
     script: &[u8],
@@ -71,7 +72,7 @@ pub fn run_over(
     let mut out = MemorySink::new(alloc, 4, fails.out);
     let mut err = MemorySink::new(alloc, 4, fails.err);
     let outcome = run(
-        &rt,
+        rt,
         alloc,
         &owned,
         tree,
@@ -115,14 +116,19 @@ pub fn tree_of(alloc: Global, files: &[(&str, &str)], fails: Vec<u64>) -> Result
 }
 
 /// Runs these words over a tree with no file.
-pub fn run_words(rt: HostRuntime, words: &[&str], script: &[u8], fails: Fails) -> Result<Ran, Fail> {
+pub fn run_words(
+    rt: &(impl Threads + Sync + AllocGlobal),
+    words: &[&str],
+    script: &[u8],
+    fails: Fails,
+) -> Result<Ran, Fail> {
     let alloc = rt.alloc();
     let mut tree = tree_of(alloc, &[], Vec::new(alloc))?;
     run_over(rt, &mut tree, words, script, fails)
 }
 
 /// Runs `live` with no object that fails.
-pub fn live(rt: HostRuntime, script: &[u8]) -> Result<Ran, Fail> {
+pub fn live(rt: &(impl Threads + Sync + AllocGlobal), script: &[u8]) -> Result<Ran, Fail> {
     run_words(rt, &["live"], script, no_fails(rt.alloc()))
 }
 

@@ -29,7 +29,7 @@ fn scripts_print_their_journals(rt: HostRuntime) -> Result<(), Fail> {
         ),
     ];
     for (script, journal) in rows {
-        let ran = live(rt, script.as_bytes())?;
+        let ran = live(&rt, script.as_bytes())?;
         assert_eq!(rt; ran.out.taken(), journal.as_bytes());
         assert_eq!(rt; ran.err.taken(), b"".as_slice());
         assert_eq!(rt; ran.status, Status::Ok);
@@ -84,7 +84,7 @@ c0 poll 5
 ~ a.txt
 19 c0 q5 not-yet 0
 ";
-    let ran = live(rt, script.as_bytes())?;
+    let ran = live(&rt, script.as_bytes())?;
     assert_eq!(rt; ran.out.taken(), journal.as_bytes());
     assert_eq!(rt; ran.status, Status::Ok);
     Ok(())
@@ -107,7 +107,7 @@ fn forms_of_time_out_of_range_end_the_run(rt: HostRuntime) -> Result<(), Fail> {
         ),
     ];
     for (script, err) in rows {
-        let ran = live(rt, script.as_bytes())?;
+        let ran = live(&rt, script.as_bytes())?;
         assert_eq!(rt; ran.err.taken(), err.as_bytes());
         assert_eq!(rt; ran.out.taken(), b"".as_slice());
         assert_eq!(rt; ran.status, Status::Expression);
@@ -129,23 +129,19 @@ fn bad_lines_and_words_are_refused(rt: HostRuntime) -> Result<(), Fail> {
         ("\n\nc0 query 1 first=0 where a == 1\n", 3),
     ];
     for (script, line) in rows {
-        let ran = live(rt, script.as_bytes())?;
+        let ran = live(&rt, script.as_bytes())?;
         let want = format!(in alloc; "mdserve: line {line} not understood\n")?;
         assert_eq!(rt; ran.err.taken(), want.as_bytes());
         assert_eq!(rt; ran.out.taken(), b"".as_slice());
         assert_eq!(rt; ran.status, Status::Script);
     }
-    let ran = live(rt, b"c0 poll 1\n# \xff\n")?;
+    let ran = live(&rt, b"c0 poll 1\n# \xff\n")?;
     assert_eq!(rt;
         ran.err.taken(),
         b"mdserve: line 2 not understood\n".as_slice()
     );
-    for words in [
-        [].as_slice(),
-        &["live", "live"],
-        &["Live"],
-    ] {
-        let ran = run_words(rt, words, FIRST_SCRIPT.as_bytes(), no_fails(alloc))?;
+    for words in [[].as_slice(), &["live", "live"], &["Live"]] {
+        let ran = run_words(&rt, words, FIRST_SCRIPT.as_bytes(), no_fails(alloc))?;
         assert_eq!(rt;
             ran.err.taken(),
             b"mdserve: words not understood\n".as_slice()
@@ -159,17 +155,17 @@ fn bad_lines_and_words_are_refused(rt: HostRuntime) -> Result<(), Fail> {
 fn long_scripts_are_refused(rt: HostRuntime) -> Result<(), Fail> {
     let alloc = rt.alloc();
     let lines = "\n".repeat(alloc, 100_000)?;
-    let ran = live(rt, lines.as_bytes())?;
+    let ran = live(&rt, lines.as_bytes())?;
     assert_eq!(rt; ran.status, Status::Ok);
     let lines = "\n".repeat(alloc, 100_001)?;
-    let ran = live(rt, lines.as_bytes())?;
+    let ran = live(&rt, lines.as_bytes())?;
     assert_eq!(rt;
         ran.err.taken(),
         b"mdserve: script has too many lines\n".as_slice()
     );
     assert_eq!(rt; ran.status, Status::Script);
     let bytes = "#".repeat(alloc, 67_108_865)?;
-    let ran = live(rt, bytes.as_bytes())?;
+    let ran = live(&rt, bytes.as_bytes())?;
     assert_eq!(rt; ran.err.taken(), b"mdserve: script too long\n".as_slice());
     assert_eq!(rt; ran.status, Status::Script);
     Ok(())
@@ -191,7 +187,7 @@ fn a_client_has_64_queries(rt: HostRuntime) -> Result<(), Fail> {
     journal.push_str(
         "65 c0 q64 too-many\n66 c1 q64 created 0\n67 c0 q0 stopped\n68 c0 q64 created 0\n69 c0 q64 taken\n",
     )?;
-    let ran = live(rt, script.as_bytes())?;
+    let ran = live(&rt, script.as_bytes())?;
     assert_eq!(rt; ran.out.taken(), journal.as_bytes());
     Ok(())
 }
@@ -207,7 +203,7 @@ fn each_front_of_a_script_is_read_as_the_reader_says(rt: HostRuntime) -> Result<
             Err(ScriptError::BadLine(_)) => Status::Script,
             Err(_) => Status::Memory,
         };
-        assert_eq!(rt; live(rt, front)?.status, want);
+        assert_eq!(rt; live(&rt, front)?.status, want);
     }
     Ok(())
 }

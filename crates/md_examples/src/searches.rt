@@ -6,6 +6,7 @@ use md_value::{Items, Path};
 use std::alloc::Global;
 use std::ops::Range;
 use std::test::Fail;
+use std::thread::Threads;
 
 const FILES: [(&str, &str); 8] = [
     ("a.txt", "first"),
@@ -19,7 +20,11 @@ const FILES: [(&str, &str); 8] = [
 ];
 
 // Runs words over these files, in a tree that fails in its calls of these numbers, and says how the run ended.
-fn told(rt: HostRuntime, words: &[&str], fails: &[u64]) -> Result<String, Fail> {
+fn told(
+    rt: &(impl Threads + Sync + AllocGlobal),
+    words: &[&str],
+    fails: &[u64],
+) -> Result<String, Fail> {
     let alloc = rt.alloc();
     let mut tree = tree_of(alloc, &FILES, Vec::from_slice(alloc, fails)?)?;
     let ran = run_over(rt, &mut tree, words, b"put a.txt x\n", no_fails(alloc))?;
@@ -68,12 +73,18 @@ fn folders_are_searched(rt: HostRuntime) -> Result<(), Fail> {
             "0|docs2/budget.txt\n|",
         ),
         (
-            &["mdfind", "-onlyin", "docs2", "-literal", "InRange(kMDItemFSSize, 4, 4)"],
+            &[
+                "mdfind",
+                "-onlyin",
+                "docs2",
+                "-literal",
+                "InRange(kMDItemFSSize, 4, 4)",
+            ],
             "0|docs2/budget.txt\n|",
         ),
     ];
     for (words, want) in rows {
-        assert_eq!(rt; told(rt, words, &[])?.as_str(), want);
+        assert_eq!(rt; told(&rt, words, &[])?.as_str(), want);
     }
     Ok(())
 }
@@ -81,26 +92,45 @@ fn folders_are_searched(rt: HostRuntime) -> Result<(), Fail> {
 #[test]
 fn searches_are_refused(rt: HostRuntime) -> Result<(), Fail> {
     let alloc = rt.alloc();
-    let deep = format!(in alloc; "{}a == 1{}", "(".repeat(alloc, 65)?, ")".repeat(alloc, 65)?)?;
+    let deep = format!(in alloc;
+        "{}a == 1{}",
+        "(".repeat(alloc, 65)?,
+        ")".repeat(alloc, 65)?
+    )?;
     let rows = [
         (
             ["mdfind", "kMDItemTitle == \"x\"cc"].as_slice(),
             "2||mdserve: not an expression\n",
         ),
-        (&["mdfind", "InRange(a, 1)"], "2||mdserve: not an expression\n"),
+        (
+            &["mdfind", "InRange(a, 1)"],
+            "2||mdserve: not an expression\n",
+        ),
         (
             &["mdfind", "kMDItemTitle == \"x"],
             "2||mdserve: not an expression\n",
         ),
-        (&["mdfind", "-literal", "budget"], "2||mdserve: not an expression\n"),
-        (&["mdfind", "-name", "x", ""], "2||mdserve: not an expression\n"),
-        (&["mdfind", deep.as_str()], "2||mdserve: expression too deep\n"),
+        (
+            &["mdfind", "-literal", "budget"],
+            "2||mdserve: not an expression\n",
+        ),
+        (
+            &["mdfind", "-name", "x", ""],
+            "2||mdserve: not an expression\n",
+        ),
+        (
+            &["mdfind", deep.as_str()],
+            "2||mdserve: expression too deep\n",
+        ),
         (
             &["mdfind", "kMDItemDueDate > $time.now(999999999999)"],
             "2||mdserve: time form 1 out of range\n",
         ),
         (&["mdfind"], "1||mdserve: words not understood\n"),
-        (&["mdfind", "-live", "x"], "1||mdserve: words not understood\n"),
+        (
+            &["mdfind", "-live", "x"],
+            "1||mdserve: words not understood\n",
+        ),
         (
             &["mdfind", "-onlyin", "../x", "y"],
             "1||mdserve: words not understood\n",
@@ -109,7 +139,10 @@ fn searches_are_refused(rt: HostRuntime) -> Result<(), Fail> {
             &["mdfind", "-literal", "-interpret", "x"],
             "1||mdserve: words not understood\n",
         ),
-        (&["live", "--workers", "0"], "1||mdserve: words not understood\n"),
+        (
+            &["live", "--workers", "0"],
+            "1||mdserve: words not understood\n",
+        ),
         (
             &["mdfind", "-onlyin", "nowhere", "x"],
             "7||nowhere: not found\n",
@@ -120,11 +153,15 @@ fn searches_are_refused(rt: HostRuntime) -> Result<(), Fail> {
         ),
     ];
     for (words, want) in rows {
-        assert_eq!(rt; told(rt, words, &[])?.as_str(), want);
+        assert_eq!(rt; told(&rt, words, &[])?.as_str(), want);
     }
-    let groups = format!(in alloc; "{}a == 1{}", "(".repeat(alloc, 64)?, ")".repeat(alloc, 64)?)?;
+    let groups = format!(in alloc;
+        "{}a == 1{}",
+        "(".repeat(alloc, 64)?,
+        ")".repeat(alloc, 64)?
+    )?;
     assert_eq!(rt;
-        told(rt, &["mdfind", "-onlyin", "docs2", groups.as_str()], &[])?.as_str(),
+        told(&rt, &["mdfind", "-onlyin", "docs2", groups.as_str()], &[])?.as_str(),
         "0||"
     );
     Ok(())
@@ -145,7 +182,11 @@ fn what_could_not_be_read_is_told(rt: HostRuntime) -> Result<(), Fail> {
             &[0],
             "3||docs: could not be listed\n",
         ),
-        (&["mdfind", "-count", "x"], &[0], "3|0\n|.: could not be listed\n"),
+        (
+            &["mdfind", "-count", "x"],
+            &[0],
+            "3|0\n|.: could not be listed\n",
+        ),
         (
             &["mdfind", "-name", "scan"],
             &[8],
@@ -153,19 +194,22 @@ fn what_could_not_be_read_is_told(rt: HostRuntime) -> Result<(), Fail> {
         ),
     ];
     for (words, fails, want) in rows {
-        assert_eq!(rt; told(rt, words, fails)?.as_str(), want);
+        assert_eq!(rt; told(&rt, words, fails)?.as_str(), want);
     }
     let words = ["mdfind", "kMDItemFSName == \"*\""];
-    let empty = run_words(rt, &words, b"", no_fails(alloc))?;
+    let empty = run_words(&rt, &words, b"", no_fails(alloc))?;
     assert_eq!(rt; ending(alloc, &empty)?.as_str(), "0||");
     let mut fails = no_fails(alloc);
     fails.clock.push(0)?;
-    let ran = run_words(rt, &words, b"", fails)?;
-    assert_eq!(rt; ending(alloc, &ran)?.as_str(), "3||mdserve: clock could not be read\n");
+    let ran = run_words(&rt, &words, b"", fails)?;
+    assert_eq!(rt;
+        ending(alloc, &ran)?.as_str(),
+        "3||mdserve: clock could not be read\n"
+    );
     let mut fails = no_fails(alloc);
     fails.out.push(2)?;
     let mut tree = tree_of(alloc, &[("a.txt", ""), ("b.txt", "")], Vec::new(alloc))?;
-    let ran = run_over(rt, &mut tree, &words, b"", fails)?;
+    let ran = run_over(&rt, &mut tree, &words, b"", fails)?;
     assert_eq!(rt; ending(alloc, &ran)?.as_str(), "4|a.txt\nb.|");
     Ok(())
 }
@@ -200,7 +244,11 @@ fn push_numbered(
     Ok(())
 }
 
-fn tree_with(alloc: Global, files: Vec<(Entry, Items<u8>)>, fails: Vec<u64>) -> Result<MemoryTree, Fail> {
+fn tree_with(
+    alloc: Global,
+    files: Vec<(Entry, Items<u8>)>,
+    fails: Vec<u64>,
+) -> Result<MemoryTree, Fail> {
     let mut folders = Vec::new(alloc);
     folders.push(Path::root(alloc))?;
     folders.push(Path::read(alloc, "docs")?)?;
@@ -217,11 +265,16 @@ fn hits_are_counted(rt: HostRuntime) -> Result<(), Fail> {
     push_entry(alloc, &mut files, "docs/Budget-old.pdf", b"")?;
     push_entry(alloc, &mut files, "docs/budget.csv", b"total")?;
     push_numbered(alloc, &mut files, ("docs/n", ".txt"), 100..300, "note")?;
-    push_entry(alloc, &mut files, "docs/plan.json", b"{\"kMDItemTitle\": \"Budget 2024\"}")?;
+    push_entry(
+        alloc,
+        &mut files,
+        "docs/plan.json",
+        b"{\"kMDItemTitle\": \"Budget 2024\"}",
+    )?;
     push_numbered(alloc, &mut files, ("docs/scan", ".pdf"), 100..197, "scan")?;
     let mut tree = tree_with(alloc, files, Vec::new(alloc))?;
     let words = ["mdfind", "-onlyin", "docs", "-count", "budget"];
-    let ran = run_over(rt, &mut tree, &words, b"", no_fails(alloc))?;
+    let ran = run_over(&rt, &mut tree, &words, b"", no_fails(alloc))?;
     assert_eq!(rt; ending(alloc, &ran)?.as_str(), "0|3\n|");
     Ok(())
 }
@@ -233,8 +286,11 @@ fn a_folder_may_be_full(rt: HostRuntime) -> Result<(), Fail> {
     let mut files = Vec::new(alloc);
     push_numbered(alloc, &mut files, ("docs/", ""), 1_000_000..2_000_001, "")?;
     let mut tree = tree_with(alloc, files, Vec::from_slice(alloc, &[1])?)?;
-    let ran = run_over(rt, &mut tree, &["mdfind", "x"], b"", no_fails(alloc))?;
+    let ran = run_over(&rt, &mut tree, &["mdfind", "x"], b"", no_fails(alloc))?;
     assert_eq!(rt; ran.status, Status::Full);
-    assert_eq!(rt; ending(alloc, &ran)?.as_str(), "8||mdserve: more than 1000000 files\n");
+    assert_eq!(rt;
+        ending(alloc, &ran)?.as_str(),
+        "8||mdserve: more than 1000000 files\n"
+    );
     Ok(())
 }

@@ -2,6 +2,7 @@
 use crate::runs::{ending, no_fails, run_over, tree_of};
 use md_tool::Status;
 use std::test::Fail;
+use std::thread::Threads;
 
 /// The attributes of `a.txt`, whose content is `hi`, as `mdls` prints them.
 const LISTED: &str = "kMDItemContentType         = \"public.plain-text\"
@@ -33,7 +34,11 @@ const FILES: [(&str, &str); 8] = [
 ];
 
 // Runs words over these files, and says how the run ended.
-fn told(rt: HostRuntime, words: &[&str], fails: &[u64]) -> Result<String, Fail> {
+fn told(
+    rt: &(impl Threads + Sync + AllocGlobal),
+    words: &[&str],
+    fails: &[u64],
+) -> Result<String, Fail> {
     let alloc = rt.alloc();
     let mut tree = tree_of(alloc, &FILES, Vec::from_slice(alloc, fails)?)?;
     let ran = run_over(rt, &mut tree, words, b"", no_fails(alloc))?;
@@ -45,12 +50,12 @@ fn mdls_prints_the_attributes_of_files(rt: HostRuntime) -> Result<(), Fail> {
     let alloc = rt.alloc();
     let whole = format!(in alloc; "0|{LISTED}|")?;
     assert_eq!(rt;
-        told(rt, &["mdls", "a.txt"], &[])?.as_str(),
+        told(&rt, &["mdls", "a.txt"], &[])?.as_str(),
         whole.as_str()
     );
     let absent = format!(in alloc; "7|{LISTED}|b.txt: not found\n")?;
     assert_eq!(rt;
-        told(rt, &["mdls", "a.txt", "b.txt"], &[])?.as_str(),
+        told(&rt, &["mdls", "a.txt", "b.txt"], &[])?.as_str(),
         absent.as_str()
     );
     let rows = [
@@ -110,7 +115,7 @@ fn mdls_prints_the_attributes_of_files(rt: HostRuntime) -> Result<(), Fail> {
         ),
     ];
     for (words, want) in rows {
-        assert_eq!(rt; told(rt, words, &[])?.as_str(), want);
+        assert_eq!(rt; told(&rt, words, &[])?.as_str(), want);
     }
     Ok(())
 }
@@ -138,7 +143,7 @@ fn mdimport_counts_the_attributes_of_files(rt: HostRuntime) -> Result<(), Fail> 
         (&["mdls", "-raw"], "1||mdserve: words not understood\n"),
     ];
     for (words, want) in rows {
-        assert_eq!(rt; told(rt, words, &[])?.as_str(), want);
+        assert_eq!(rt; told(&rt, words, &[])?.as_str(), want);
     }
     Ok(())
 }
@@ -163,14 +168,14 @@ fn a_tree_that_fails_is_a_read_fault(rt: HostRuntime) -> Result<(), Fail> {
         ),
     ];
     for (words, fails, want) in rows {
-        assert_eq!(rt; told(rt, words, fails)?.as_str(), want);
+        assert_eq!(rt; told(&rt, words, fails)?.as_str(), want);
     }
     Ok(())
 }
 
 #[test]
 fn the_schema_is_listed(rt: HostRuntime) -> Result<(), Fail> {
-    let told = told(rt, &["mdimport", "-A"], &[])?;
+    let told = told(&rt, &["mdimport", "-A"], &[])?;
     assert!(rt; told.starts_with("0|kMDItemAuthors CFString many\nkMDItemComment CFString one\n"));
     assert!(rt; told.ends_with("md_csv_rows CFNumber one\nmd_imported CFBoolean one\n|"));
     assert_eq!(rt; told.as_str().lines().count(), 27);

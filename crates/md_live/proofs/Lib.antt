@@ -1,4 +1,4 @@
-mod Ends
+pub mod Ends
 mod Holding
 pub mod Scripts
 mod Summing

@@ -13,8 +13,8 @@ fn sums_up_generated_runs(rt: HostRuntime) -> Result<(), Fail> {
         ),
         (
             7,
-            100,
-            "files 100\nevents 286\nversion 112\nrows 88\nnotices 9\nadded 80\nchanged 0\nremoved 16\nheld 10 10 7 18 33 20 23 88\n",
+            1_000,
+            "files 1000\nevents 2650\nversion 1126\nrows 886\nnotices 39\nadded 649\nchanged 0\nremoved 123\nheld 292 76 58 91 432 270 307 526\n",
         ),
     ];
     for (start, count, want) in rows {

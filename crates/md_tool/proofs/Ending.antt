@@ -1,18 +1,27 @@
 -- What is asked and how a run ends, from what is made and what was put.
 use Rattle.std.proofs.Common.{◌≡◌, ◌⊎◌, inl, inr, List, ℕ, ℤ, codes, refl, sym, ◌∙◌, ap, subst, Result, Ok, Err, Option, Some, None, IfOk, IsErr}
+use Rattle.md_expr_parse.specs.declared.read.ReadError.{ReadError}
+use Rattle.md_expr_tree.specs.declared.tree.Expr.{Expr}
+use Rattle.md_find.specs.Finds as search
+use Rattle.md_find.specs.declared.finding.Found.{Found}
+use Rattle.md_find.specs.declared.finding.Output.{Output}
+use Rattle.md_live.specs.TimeForms.{out_of_range}
 use Rattle.md_script.specs.declared.script.Line.{Line}
 use Rattle.md_script.specs.declared.script.ScriptError.{ScriptError}
 use Rattle.md_script.specs.Scripts.{verdict}
+use Rattle.md_value.specs.Values.{PathBytes}
 use Rattle.md_words.specs.Grammar.{command_of}
 use Rattle.md_words.specs.declared.command.Command.{Command}
 use Rattle.md_words.specs.declared.command.Tool.{Tool}
 use Rattle.md_words.specs.declared.command.Tool.TheVariants as tool
-use Rattle.md_tool.specs.Causes.{TellsFirst}
-use Rattle.md_tool.specs.Outside.{Shown, Inputs, Outputs, IsRead, IsShown, Fails, ClockFails, TakesNothing, TakesWhole, TakesPart}
-use Rattle.md_tool.specs.Reports.{Report, refusal, usage, refused, of_lines}
-use Rattle.md_tool.specs.Asking.{Answers, Lives, ToolAsks, CommandAsks, WordsAsk, Prints, Ends}
-use Rattle.md_tool.specs.Asking.Answers.{refuses, unclocked, runs}
+use Rattle.md_tool.specs.Causes.{TellsFirst, InputFails, OutputFails, IsReady, IsWhole}
+use Rattle.md_tool.specs.Outside.{Shown, Files, Inputs, Outputs, IsRead, IsShown, Fails, ClockFails, TakesNothing, TakesWhole, TakesPart}
+use Rattle.md_tool.specs.Reports.{Report, refusal, usage, no_clock, refused_script, refused_text, line_out_of_range, of_found}
+use Rattle.md_tool.specs.Asking.{LinesAsk, Answers, Lives, Finds, ToolAsks, CommandAsks, WordsAsk, Prints, Ends}
+use Rattle.md_tool.specs.Asking.LinesAsk.{misdated}
+use Rattle.md_tool.specs.Asking.Answers.{refuses as script_refuses, unclocked as script_unclocked, runs}
 use Rattle.md_tool.specs.Asking.Lives.{unread, read}
+use Rattle.md_tool.specs.Asking.Finds.{refuses as text_refuses, unclocked as text_unclocked, searches}
 use Rattle.md_tool.specs.Asking.WordsAsk.{misread, commands}
 use Rattle.md_tool.specs.Asking.Prints.{whole, stopped_in_err, stopped_in_out}
 use Rattle.md_tool.specs.Asking.Ends.{prints, no_memory}
@@ -27,27 +36,49 @@ pub err_then : {A E : Type 0} (Q : A → Type 0) (r : Result A E) → IsErr r �
 err_then Q (Ok x) h = cc
 err_then Q (Err e) h = tt
 
-module _ (offset : ℤ) (bytes : List ℕ) (old new : Shown) where
-  answers_same : (r : Report) → Answers offset bytes old new r → (p : Report) → p ≡ r → Answers offset bytes old new p
-  answers_same r h p e = subst (Answers offset bytes old new) (sym e) h
+module _ (now offset : ℤ) (lines : List Line) (old new : Files) where
+  pub asks_misdated : (line form : ℕ) → out_of_range now offset lines ≡ Some (line, form) → new ≡ old → (p : Report) → p ≡ line_out_of_range line form
+      → LinesAsk now offset lines old new p
+  asks_misdated line form is same p e = subst (LinesAsk now offset lines old new) (sym e) (misdated line form is same)
 
-  pub answers_refuses : (e : ScriptError) → verdict bytes ≡ Err e → new ≡ old → (p : Report) → p ≡ refused e → Answers offset bytes old new p
-  answers_refuses e is same = answers_same _ (refuses e is same)
+module _ (offset : ℤ) (bytes : List ℕ) (clock shown : Shown) (old new : Files) where
+  answers_same : (r : Report) → Answers offset bytes clock shown old new r → (p : Report) → p ≡ r → Answers offset bytes clock shown old new p
+  answers_same r h p e = subst (Answers offset bytes clock shown old new) (sym e) h
 
-  pub answers_unclocked : (lines : List Line) → verdict bytes ≡ Ok lines → ClockFails old new
-      → (p : Report) → p ≡ refusal status.ReadFault (codes "clock could not be read") → Answers offset bytes old new p
-  answers_unclocked lines is rose = answers_same _ (unclocked lines is rose)
+  pub answers_refuses : (e : ScriptError) → verdict bytes ≡ Err e → shown ≡ clock → new ≡ old → (p : Report) → p ≡ refused_script e → Answers offset bytes clock shown old new p
+  answers_refuses e is same kept = answers_same _ (script_refuses e is same kept)
 
-  pub answers_runs : (lines : List Line) (now : ℤ) → verdict bytes ≡ Ok lines → IsShown old new now → (p : Report) → p ≡ of_lines now offset lines → Answers offset bytes old new p
-  answers_runs lines now is shown = answers_same _ (runs lines now is shown)
+  pub answers_unclocked : (lines : List Line) → verdict bytes ≡ Ok lines → ClockFails clock shown → new ≡ old → (p : Report) → p ≡ no_clock
+      → Answers offset bytes clock shown old new p
+  answers_unclocked lines is rose kept = answers_same _ (script_unclocked lines is rose kept)
+
+  pub answers_runs : (lines : List Line) (now : ℤ) → verdict bytes ≡ Ok lines → IsShown clock shown now → (p : Report) → LinesAsk now offset lines old new p
+      → Answers offset bytes clock shown old new p
+  answers_runs lines now is shows p asks = runs lines now p is shows asks
 
 module _ (offset : ℤ) (old new : Inputs) where
   pub lives_unread : Fails old.script new.script → new.clock ≡ old.clock → new.tree ≡ old.tree
       → (p : Report) → p ≡ refusal status.ReadFault (codes "script could not be read") → Lives offset old new p
   lives_unread rose clock tree p e = subst (Lives offset old new) (sym e) (unread rose clock tree)
 
-  pub lives_read : (bytes : List ℕ) (r : Report) → IsRead old.script new.script bytes → Answers offset bytes old.clock new.clock r → new.tree ≡ old.tree → Lives offset old new r
-  lives_read bytes r is answers tree = read bytes r is answers tree
+  pub lives_read : (bytes : List ℕ) (r : Report) → IsRead old.script new.script bytes → Answers offset bytes old.clock new.clock old.tree new.tree r → Lives offset old new r
+  lives_read bytes r is answers = read bytes r is answers
+
+module _ (offset : ℤ) (output : Output) (scope : PathBytes) (query : Result Expr ReadError) (old new : Inputs) where
+  finds_same : (r : Report) → Finds offset output scope query old new r → (p : Report) → p ≡ r → Finds offset output scope query old new p
+  finds_same r h p e = subst (Finds offset output scope query old new) (sym e) h
+
+  pub finds_refuses : (e : ReadError) → query ≡ Err e → new ≡ old → (p : Report) → p ≡ refused_text e → Finds offset output scope query old new p
+  finds_refuses e is same = finds_same _ (text_refuses e is same)
+
+  pub finds_unclocked : (expr : Expr) → query ≡ Ok expr → ClockFails old.clock new.clock → new.tree ≡ old.tree → new.script ≡ old.script → (p : Report) → p ≡ no_clock
+      → Finds offset output scope query old new p
+  finds_unclocked expr is rose tree script = finds_same _ (text_unclocked expr is rose tree script)
+
+  pub finds_searches : (expr : Expr) (now : ℤ) (made : Found) → query ≡ Ok expr → IsShown old.clock new.clock now
+      → search.Finds old.tree.told old.tree.faults new.tree.faults (record { expr = expr; moment = now; offset = offset; scope = scope }) output made
+      → new.tree.told ≡ old.tree.told → new.script ≡ old.script → (p : Report) → p ≡ of_found made → Finds offset output scope query old new p
+  finds_searches expr now made is shows found tree script = finds_same _ (searches expr now made is shows found tree script)
 
 -- a tool that is the run of a script asks and tells as that does
 pub live_asks : (offset : ℤ) (what : Tool) (workers : Option ℕ) (old new : Inputs) → what ≡ tool.Live workers → workers ≡ None → (r : Report) → Lives offset old new r → ToolAsks offset old new what r
@@ -82,3 +113,13 @@ pub ends_words : (words : List (List ℕ)) (old new : Inputs) (before after : Ou
     → (answer : Status) → Ends (CommandAsks command old new) before after answer → Ends (WordsAsk words old new) before after answer
 ends_words words old new before after command is _ (prints r answer asks h) = prints r answer (commands command r is asks) h
 ends_words words old new before after command is _ (no_memory e o) = no_memory e o
+
+-- what holds where the needs of a command are met holds of the words that read as it
+pub complete_words : (words : List (List ℕ)) (old new : Inputs) (before after : Outputs) (answer : Status) (known : Command) → command_of words ≡ Some known
+    → (IsReady known.offset old known.what → ¬ (InputFails old new) → ¬ (OutputFails before after) → (answer ≡ status.Memory) ⊎ IsWhole known.what new answer)
+    → (command : Command) → command_of words ≡ Some command
+    → IsReady command.offset old command.what → ¬ (InputFails old new) → ¬ (OutputFails before after) → (answer ≡ status.Memory) ⊎ IsWhole command.what new answer
+complete_words words old new before after answer known is complete command told =
+    let same : Some known ≡ Some command = sym is ∙ told in
+    let known_same : known ≡ command = cc (same) in
+    subst (λ c. IsReady c.offset old c.what → ¬ (InputFails old new) → ¬ (OutputFails before after) → (answer ≡ status.Memory) ⊎ IsWhole c.what new answer) known_same complete

@@ -1,3 +1,5 @@
 mod Causes
 mod Ending
+mod FindCauses
+mod LiveCauses
 mod Scripts

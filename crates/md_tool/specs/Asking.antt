@@ -1,17 +1,28 @@
 -- What commands ask of the tree, the script and the clock, and what is printed of it.
-use Rattle.std.specs.Prelude.{◌≡◌, ℕ, ℤ, List, codes, None, Some, Ok, Err}
+use Rattle.std.specs.Prelude.{◌≡◌, ℕ, ℤ, Bool, if◌then◌else◌, List, codes, None, Some, Result, Ok, Err}
+use Rattle.md_expr_parse.specs.declared.read.ReadError.{ReadError}
+use Rattle.md_expr_tree.specs.declared.tree.Expr.{Expr}
 use Rattle.md_files.specs.Reports as files
 use Rattle.md_files.specs.Reports.{Shows, Imports}
 use Rattle.md_files.specs.Tables.{importers_text, attributes_text}
+use Rattle.md_find.specs.Finds as search
+use Rattle.md_find.specs.Searches.{search_of}
+use Rattle.md_find.specs.declared.finding.Found.{Found}
+use Rattle.md_find.specs.declared.finding.Output.{Output}
+use Rattle.md_find.specs.declared.finding.Output.TheVariants as output
+use Rattle.md_live.specs.Reports.{Runs}
+use Rattle.md_live.specs.TimeForms.{out_of_range}
 use Rattle.md_script.specs.declared.script.Line.{Line}
 use Rattle.md_script.specs.declared.script.ScriptError.{ScriptError}
 use Rattle.md_script.specs.Scripts.{verdict}
+use Rattle.md_summary.specs.Summary.{Summarizes}
+use Rattle.md_value.specs.Values.{PathBytes}
 use Rattle.md_words.specs.Grammar.{command_of}
 use Rattle.md_words.specs.declared.command.Command.{Command}
 use Rattle.md_words.specs.declared.command.Tool.{Tool}
 use Rattle.md_words.specs.declared.command.Tool.TheVariants as tool
-use Rattle.md_tool.specs.Outside.{Shown, Inputs, Outputs, IsRead, IsShown, Fails, ClockFails, TakesNothing, TakesWhole, TakesPart}
-use Rattle.md_tool.specs.Reports.{Report, plain, refusal, usage, refused, of_files, of_lines}
+use Rattle.md_tool.specs.Outside.{Shown, Files, Inputs, Outputs, IsRead, IsShown, Fails, ClockFails, TakesNothing, TakesWhole, TakesPart}
+use Rattle.md_tool.specs.Reports.{Report, plain, refusal, usage, no_clock, refused_script, refused_text, line_out_of_range, of_files, of_found}
 use Rattle.md_tool.specs.declared.status.Status.{Status}
 use Rattle.md_tool.specs.declared.status.Status.TheVariants as status
 
@@ -24,28 +35,51 @@ pub record OfFiles (old new : Inputs) (Makes : files.Report → Type 0) (report 
   pub script : new.script ≡ old.script
   pub clock : new.clock ≡ old.clock
 
--- What a script in bytes and the clock ask to be printed at an offset; the clock is read only where the script is accepted.
-pub data Answers (offset : ℤ) (bytes : List ℕ) (old new : Shown) : Report → Type 0 where
-  refuses : (e : ScriptError) → verdict bytes ≡ Err e → new ≡ old → Answers offset bytes old new (refused e)
-  unclocked : (lines : List Line) → verdict bytes ≡ Ok lines → ClockFails old new
-      → Answers offset bytes old new (refusal status.ReadFault (codes "clock could not be read"))
-  runs : (lines : List Line) (now : ℤ) → verdict bytes ≡ Ok lines → IsShown old new now → Answers offset bytes old new (of_lines now offset lines)
+-- What the lines of a script ask of the tree now at an offset: nothing where a form of time is out of range.
+pub data LinesAsk (now offset : ℤ) (lines : List Line) (old new : Files) : Report → Type 0 where
+  misdated : (line form : ℕ) → out_of_range now offset lines ≡ Some (line, form) → new ≡ old → LinesAsk now offset lines old new (line_out_of_range line form)
+  run : (made : files.Report) → out_of_range now offset lines ≡ None → Runs old.told old.faults new.faults now offset lines made → new.told ≡ old.told
+      → LinesAsk now offset lines old new (of_files made)
 
--- What the script and the clock ask to be printed at an offset; the clock is read only after the script.
+-- What a script in bytes asks of the clock, before and after, and of the tree: the clock is read only where the script is
+-- accepted, and the tree only after the clock.
+pub data Answers (offset : ℤ) (bytes : List ℕ) (clock shown : Shown) (old new : Files) : Report → Type 0 where
+  refuses : (e : ScriptError) → verdict bytes ≡ Err e → shown ≡ clock → new ≡ old → Answers offset bytes clock shown old new (refused_script e)
+  unclocked : (lines : List Line) → verdict bytes ≡ Ok lines → ClockFails clock shown → new ≡ old → Answers offset bytes clock shown old new no_clock
+  runs : (lines : List Line) (now : ℤ) (report : Report) → verdict bytes ≡ Ok lines → IsShown clock shown now → LinesAsk now offset lines old new report
+      → Answers offset bytes clock shown old new report
+
+-- What `live` asks at an offset: the clock and the tree are asked only after the script is read.
 pub data Lives (offset : ℤ) (old new : Inputs) : Report → Type 0 where
   unread : Fails old.script new.script → new.clock ≡ old.clock → new.tree ≡ old.tree
       → Lives offset old new (refusal status.ReadFault (codes "script could not be read"))
-  read : (bytes : List ℕ) (report : Report) → IsRead old.script new.script bytes → Answers offset bytes old.clock new.clock report → new.tree ≡ old.tree
+  read : (bytes : List ℕ) (report : Report) → IsRead old.script new.script bytes → Answers offset bytes old.clock new.clock old.tree new.tree report
       → Lives offset old new report
+
+-- how the paths that are found are printed: their number takes the place of zero bytes behind them
+abbrev pub output_of : Bool → Bool → Output
+output_of zero count = if count then output.Count else if zero then output.Zeros else output.Lines
+
+-- What `mdfind` asks at an offset in a folder, by what its search text reads as: the clock is read only where that is an
+-- expression, and the tree only after the clock.
+pub data Finds (offset : ℤ) (output : Output) (scope : PathBytes) (query : Result Expr ReadError) (old new : Inputs) : Report → Type 0 where
+  refuses : (e : ReadError) → query ≡ Err e → new ≡ old → Finds offset output scope query old new (refused_text e)
+  unclocked : (expr : Expr) → query ≡ Ok expr → ClockFails old.clock new.clock → new.tree ≡ old.tree → new.script ≡ old.script
+      → Finds offset output scope query old new no_clock
+  searches : (expr : Expr) (now : ℤ) (found : Found) → query ≡ Ok expr → IsShown old.clock new.clock now
+      → search.Finds old.tree.told old.tree.faults new.tree.faults (record { expr = expr; moment = now; offset = offset; scope = scope }) output found
+      → new.tree.told ≡ old.tree.told → new.script ≡ old.script → Finds offset output scope query old new (of_found found)
 
 -- what a tool asks at an offset, and what is printed of it
 abbrev pub ToolAsks : ℤ → Inputs → Inputs → Tool → Report → Type 0
+ToolAsks offset old new (tool.Find zero count scope name mode text) report = Finds offset (output_of zero count) scope (search_of name mode text) old new report
 ToolAsks offset old new (tool.Show raw marker names files) report = OfFiles old new (Shows old.tree.told old.tree.faults new.tree.faults offset raw marker names files) report
 ToolAsks offset old new (tool.Import files) report = OfFiles old new (Imports old.tree.told old.tree.faults new.tree.faults offset files) report
 ToolAsks offset old new tool.Importers report = (new ≡ old) × (report ≡ plain importers_text)
 ToolAsks offset old new tool.Attributes report = (new ≡ old) × (report ≡ plain attributes_text)
 ToolAsks offset old new (tool.Live None) report = Lives offset old new report
-ToolAsks offset old new _ report = ⊥
+ToolAsks offset old new (tool.Live (Some workers)) report = ⊥
+ToolAsks offset old new (tool.Gen start count) report = (new ≡ old) × (text : List ℕ) × Summarizes start count text × (report ≡ plain text)
 
 -- what a command asks, and what is printed of it
 abbrev pub CommandAsks : Command → Inputs → Inputs → Report → Type 0

@@ -1,12 +1,21 @@
 -- What the status that a run ends with tells of the objects of the outside.
-use Rattle.std.specs.Prelude.{◌≡◌, ◌⊎◌, ℕ, ℤ, Bool, true, false, List, None, Some, IfSome, Ok, Err}
+use Rattle.std.specs.Prelude.{◌≡◌, ◌≢◌, ◌⊎◌, ℕ, ◌<◌, ◌≤◌, ℤ, true, false, List, [], length, Option, None, Some, IfSome, Result, Ok, Err}
 use Rattle.std.specs.Io.KnownBytes.{IsAtEnd}
+use Rattle.std.specs.List.{filter_map}
+use Rattle.md_expr_parse.specs.declared.read.ReadError.{ReadError}
+use Rattle.md_expr_parse.specs.declared.read.ReadError.TheVariants as unread
+use Rattle.md_expr_tree.specs.declared.tree.Expr.{Expr}
 use Rattle.md_files.specs.Reports.{tells_files, tells_all}
+use Rattle.md_find.specs.Folders.{most_files}
+use Rattle.md_find.specs.Searches.{search_of}
+use Rattle.md_live.specs.Given.{imported_path, tells_imports}
 use Rattle.md_live.specs.TimeForms.{out_of_range}
+use Rattle.md_match.specs.Forms.{first_out_of_range}
 use Rattle.md_script.specs.declared.script.Line.{Line}
 use Rattle.md_script.specs.declared.script.ScriptError.{ScriptError}
 use Rattle.md_script.specs.Scripts.{verdict}
-use Rattle.md_source.specs.Tree.{Content}
+use Rattle.md_source.specs.Tree.{Content, has_folder, entries_below}
+use Rattle.md_value.specs.Values.{PathBytes}
 use Rattle.md_words.specs.declared.command.Tool.{Tool}
 use Rattle.md_words.specs.declared.command.Tool.TheVariants as tool
 use Rattle.md_tool.specs.Outside.{Inputs, Outputs, TreeFails, Fails, ClockFails}
@@ -25,28 +34,77 @@ OutputFails before after = Fails before.err after.err ⊎ Fails before.out after
 abbrev pub IsLive : Tool → Type 0
 IsLive what = what ≡ tool.Live None
 
--- whether all that a tool names is in a tree's content: files by `mdls`, files or folders by `mdimport`
-abbrev pub tells_named : Content → Tool → Bool
-tells_named content (tool.Show raw marker names files) = tells_files content files
-tells_named content (tool.Import files) = tells_all content files
-tells_named content _ = true
-
 -- the script is refused
 abbrev pub IsRefused : List ℕ → Type 0
 IsRefused bytes = (error : ScriptError) × (verdict bytes ≡ Err error)
+
+-- the search text is refused
+abbrev pub IsRefusedText : Result Expr ReadError → Type 0
+IsRefusedText query = (error : ReadError) × (query ≡ Err error) × (error ≢ unread.Memory)
 
 -- the script is read as lines, of which one has a form of time that is out of range now at the offset
 abbrev pub HasFormOut : ℤ → ℤ → List ℕ → Type 0
 HasFormOut now offset bytes = (lines : List Line) × (out : ℕ × ℕ) × (verdict bytes ≡ Ok lines) × (out_of_range now offset lines ≡ Some out)
 
--- the script is read as lines, with each form of time in range now at the offset
-abbrev pub IsAccepted : ℤ → ℤ → List ℕ → Type 0
-IsAccepted now offset bytes = (lines : List Line) × (verdict bytes ≡ Ok lines) × (out_of_range now offset lines ≡ None)
+-- the search text is read as an expression that has a form of time that is out of range now at the offset
+abbrev pub SearchHasFormOut : ℤ → ℤ → Result Expr ReadError → Type 0
+SearchHasFormOut now offset query = (expr : Expr) × (form : ℕ) × (query ≡ Ok expr) × (first_out_of_range now offset expr ≡ Some form)
 
--- what a tool needs is told and in order: the files and folders that it names, or a script that is accepted now
+-- the search text is refused, or a form of time of it or of the script is out of range
+abbrev pub RefusesExpression : ℤ → Inputs → Tool → Type 0
+RefusesExpression offset inputs (tool.Live None) = IfSome inputs.script.told (λ bytes. IfSome inputs.clock.told (λ now. HasFormOut now offset bytes))
+RefusesExpression offset inputs (tool.Find zero count scope name mode text) =
+    IsRefusedText (search_of name mode text) ⊎ IfSome inputs.clock.told (λ now. SearchHasFormOut now offset (search_of name mode text))
+RefusesExpression offset inputs _ = ⊥
+
+-- the script that a tool runs is refused
+abbrev pub RefusesScript : Inputs → Tool → Type 0
+RefusesScript inputs (tool.Live None) = IfSome inputs.script.told IsRefused
+RefusesScript inputs _ = ⊥
+
+-- the script is read as lines, of which one imports a file that is not in the tree's content
+abbrev pub LacksImport : Content → List ℕ → Type 0
+LacksImport content bytes = (lines : List Line) × (verdict bytes ≡ Ok lines) × (tells_imports content lines ≡ false)
+
+-- not all that a tool names is in the tree: the folder of `mdfind`, the files of `mdls` and of a script, and the files or
+-- folders of `mdimport`
+abbrev pub LacksNamed : Inputs → Tool → Type 0
+LacksNamed inputs (tool.Find zero count scope name mode text) = IfSome inputs.tree.told (λ content. has_folder content.folders scope ≡ false)
+LacksNamed inputs (tool.Show raw marker names files) = IfSome inputs.tree.told (λ content. tells_files content files ≡ false)
+LacksNamed inputs (tool.Import files) = IfSome inputs.tree.told (λ content. tells_all content files ≡ false)
+LacksNamed inputs (tool.Live None) = IfSome inputs.tree.told (λ content. IfSome inputs.script.told (LacksImport content))
+LacksNamed inputs _ = ⊥
+
+-- the folder of `mdfind` has too many files
+abbrev pub HasTooMany : Inputs → Tool → Type 0
+HasTooMany inputs (tool.Find zero count scope name mode text) = IfSome inputs.tree.told (λ content. most_files < length (entries_below content.files scope))
+HasTooMany inputs _ = ⊥
+
+-- all files that lines import are told by the tree; there are none where it tells nothing
+abbrev pub TellsImports : Option Content → List Line → Type 0
+TellsImports None lines = filter_map (λ line. imported_path line.what) lines ≡ []
+TellsImports (Some content) lines = tells_imports content lines ≡ true
+
+-- the script is read as lines, with each form of time in range now at the offset and each file that they import told
+abbrev pub IsAccepted : ℤ → ℤ → Option Content → List ℕ → Type 0
+IsAccepted now offset told bytes = (lines : List Line) × (verdict bytes ≡ Ok lines) × (out_of_range now offset lines ≡ None) × TellsImports told lines
+
+-- the search text is read as an expression, with each form of time in range now at the offset
+abbrev pub IsReadInRange : ℤ → ℤ → Result Expr ReadError → Type 0
+IsReadInRange now offset query = (expr : Expr) × (query ≡ Ok expr) × (first_out_of_range now offset expr ≡ None)
+
+-- the folder is there, and has not too many files
+abbrev pub HasFew : Content → PathBytes → Type 0
+HasFew content scope = (has_folder content.folders scope ≡ true) × (length (entries_below content.files scope) ≤ most_files)
+
+-- what a tool needs is told and in order: the files and folders that it names, a script that is accepted now, or a search
+-- text that is read
 abbrev pub IsReady : ℤ → Inputs → Tool → Type 0
+IsReady offset inputs (tool.Find zero count scope name mode text) =
+    (content : Content) × (now : ℤ) × (inputs.tree.told ≡ Some content) × (inputs.clock.told ≡ Some now)
+    × IsReadInRange now offset (search_of name mode text) × HasFew content scope
 IsReady offset inputs (tool.Live None) =
-    (bytes : List ℕ) × (now : ℤ) × (inputs.script.told ≡ Some bytes) × (inputs.clock.told ≡ Some now) × IsAccepted now offset bytes
+    (bytes : List ℕ) × (now : ℤ) × (inputs.script.told ≡ Some bytes) × (inputs.clock.told ≡ Some now) × IsAccepted now offset inputs.tree.told bytes
 IsReady offset inputs (tool.Show raw marker names files) = (content : Content) × (inputs.tree.told ≡ Some content) × (tells_files content files ≡ true)
 IsReady offset inputs (tool.Import files) = (content : Content) × (inputs.tree.told ≡ Some content) × (tells_all content files ≡ true)
 IsReady offset inputs _ = Unit {0}
@@ -55,15 +113,16 @@ IsReady offset inputs _ = Unit {0}
 pub record Tells (offset : ℤ) (what : Tool) (old new : Inputs) (answer : Status) : Type 0 where
   -- the words are understood
   pub usage : answer ≡ status.Usage → ⊥
-  -- a form of time of the script is out of range
-  pub live : answer ≡ status.Expression → IsLive what
-  pub expression : answer ≡ status.Expression → IfSome old.script.told (λ bytes. IfSome old.clock.told (λ now. HasFormOut now offset bytes))
+  -- the search text is refused, or a form of time is out of range
+  pub expression : answer ≡ status.Expression → RefusesExpression offset old what
   -- the tree, the script or the clock failed
   pub read_fault : answer ≡ status.ReadFault → InputFails old new
   -- the script is refused
-  pub script : answer ≡ status.Script → IfSome old.script.told IsRefused
+  pub script : answer ≡ status.Script → RefusesScript old what
   -- not all that is named is in the tree
-  pub absent : answer ≡ status.Absent → IfSome old.tree.told (λ content. tells_named content what ≡ false)
+  pub absent : answer ≡ status.Absent → LacksNamed old what
+  -- the folder has too many files
+  pub full : answer ≡ status.Full → HasTooMany old what
 
 -- all was printed, and a script was read to its end
 abbrev pub IsWhole : Tool → Inputs → Status → Type 0

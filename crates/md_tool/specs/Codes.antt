@@ -12,3 +12,4 @@ code_of status.WriteFault = 4
 code_of status.Memory = 5
 code_of status.Script = 6
 code_of status.Absent = 7
+code_of status.Full = 8

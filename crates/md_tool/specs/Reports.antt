@@ -1,14 +1,15 @@
 -- What is printed, and the status that goes with it.
-use Rattle.std.specs.Prelude.{ℕ, ℤ, List, [], ◌++◌, codes, Option, None, Some}
+use Rattle.std.specs.Prelude.{ℕ, List, [], ◌++◌, codes}
 use Rattle.std.specs.Fmt.{decimal}
+use Rattle.md_expr_parse.specs.declared.read.ReadError.{ReadError}
+use Rattle.md_expr_parse.specs.declared.read.ReadError.TheVariants as unread
 use Rattle.md_files.specs.Reports as files
 use Rattle.md_files.specs.declared.report.End.{End}
 use Rattle.md_files.specs.declared.report.End.TheVariants as ended
-use Rattle.md_script.specs.declared.script.Line.{Line}
+use Rattle.md_find.specs.declared.finding.Found.{Found}
+use Rattle.md_find.specs.declared.finding.Found.TheVariants as found
 use Rattle.md_script.specs.declared.script.ScriptError.{ScriptError}
 use Rattle.md_script.specs.declared.script.ScriptError.TheVariants as error
-use Rattle.md_live.specs.Journals.{Printed, printed}
-use Rattle.md_live.specs.TimeForms.{out_of_range}
 use Rattle.md_tool.specs.declared.status.Status.{Status}
 use Rattle.md_tool.specs.declared.status.Status.TheVariants as status
 
@@ -40,23 +41,36 @@ status_of ended.Absent = status.Absent
 abbrev pub of_files : files.Report → Report
 of_files made = record { status = status_of made.end; out = made.out; err = made.err }
 
+-- a clock that failed
+abbrev pub no_clock : Report
+no_clock = refusal status.ReadFault (codes "clock could not be read")
+
 -- what refuses a script
-abbrev pub refused : ScriptError → Report
-refused error.TooLong = refusal status.Script (codes "script too long")
-refused error.TooManyLines = refusal status.Script (codes "script has too many lines")
-refused (error.BadLine number) = refusal status.Script (codes "line " ++ (decimal number ++ codes " not understood"))
-refused error.Memory = refusal status.Memory []
+abbrev pub refused_script : ScriptError → Report
+refused_script error.TooLong = refusal status.Script (codes "script too long")
+refused_script error.TooManyLines = refusal status.Script (codes "script has too many lines")
+refused_script (error.BadLine number) = refusal status.Script (codes "line " ++ (decimal number ++ codes " not understood"))
+refused_script error.Memory = refusal status.Memory []
 
--- the run of a script
-abbrev pub of_run : Printed → Report
-of_run made = record { status = status.Ok; out = made.out; err = made.err }
+-- what refuses a search text
+abbrev pub refused_text : ReadError → Report
+refused_text unread.TooLong = refusal status.Expression (codes "expression too long")
+refused_text unread.NotExpression = refusal status.Expression (codes "not an expression")
+refused_text unread.TooDeep = refusal status.Expression (codes "expression too deep")
+refused_text unread.TooMany = refusal status.Expression (codes "too many comparisons")
+refused_text unread.Memory = refusal status.Memory []
 
--- by the first line with a form of time that is out of range, and the form's number
-abbrev pub lines_by : ℤ → ℤ → List Line → Option (ℕ × ℕ) → Report
-lines_by now offset lines None = of_run (printed now offset lines)
-lines_by now offset lines (Some (line, form)) =
+-- a form of time of a line of a script that is out of range
+abbrev pub line_out_of_range : ℕ → ℕ → Report
+line_out_of_range line form =
     refusal status.Expression (codes "line " ++ (decimal line ++ (codes ": time form " ++ (decimal form ++ codes " out of range"))))
 
--- what the lines of a script ask to be printed now at an offset
-abbrev pub of_lines : ℤ → ℤ → List Line → Report
-of_lines now offset lines = lines_by now offset lines (out_of_range now offset lines)
+-- a form of time of a search text that is out of range
+abbrev pub form_out_of_range : ℕ → Report
+form_out_of_range form = refusal status.Expression (codes "time form " ++ (decimal form ++ codes " out of range"))
+
+-- what `mdfind` prints of what its search gives
+abbrev pub of_found : Found → Report
+of_found (found.Report made) = of_files made
+of_found found.Full = refusal status.Full (codes "more than 1000000 files")
+of_found (found.OutOfRange form) = form_out_of_range form

@@ -1,6 +1,7 @@
 //! The top call: from the program's words to what is printed.
 #![tactic(auto)]
 
+mod find;
 mod live;
 mod report;
 mod status;

@@ -1,6 +1,6 @@
 // What is to be printed, and the status that goes with it.
 ghost use Rattle.std.specs.Prelude.{◌≡◌, IfOk, string_bytes};
-ghost use Rattle.md_tool.specs.Reports.{plain, refusal, usage, status_of, of_files};
+ghost use Rattle.md_tool.specs.Reports.{plain, refusal, usage, no_clock, status_of, of_files};
 
 use crate::Status;
 use md_files::End;
@@ -38,6 +38,13 @@ pub(crate) fn usage(alloc: Global) -> Result<Report, AllocError>
     ensures { IfOk result (λ report. report ≡ usage) }
 {
     refusal(alloc, Status::Usage, "words not understood")
+}
+
+/// That the clock failed.
+pub(crate) fn no_clock(alloc: Global) -> Result<Report, AllocError>
+    ensures { IfOk result (λ report. report ≡ no_clock) }
+{
+    refusal(alloc, Status::ReadFault, "clock could not be read")
 }
 
 /// A text for out.

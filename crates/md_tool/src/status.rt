@@ -9,7 +9,7 @@ pub enum Status {
     Ok,
     /// The words are not understood.
     Usage,
-    /// A form of time of the script is out of range.
+    /// The search text is refused, or a form of time of it or of the script is out of range.
     Expression,
     /// The tree, the script or the clock could not be read.
     ReadFault,
@@ -21,6 +21,8 @@ pub enum Status {
     Script,
     /// A file or folder that was named is not there.
     Absent,
+    /// The folder that is searched has over 1,000,000 files.
+    Full,
 }
 
 impl Status {
@@ -37,6 +39,7 @@ impl Status {
             Status::Memory => 5,
             Status::Script => 6,
             Status::Absent => 7,
+            Status::Full => 8,
         }
     }
 }

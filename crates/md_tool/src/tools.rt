@@ -7,12 +7,16 @@ ghost use Rattle.md_tool.specs.Asking.{OfFiles, ToolAsks};
 ghost use Rattle.md_tool.specs.Causes.{TellsFirst};
 ghost use Rattle.md_files.specs.Reports.{Shows, Imports};
 
+use crate::find::{find, output_of, text_of};
 use crate::live::live;
 use crate::report::{Report, of_files, plain};
+use md_find::search;
 use md_source::{Clock, Source, Tree};
+use md_summary::summarize;
 use md_value::{Name, Path};
 use md_words::{Command, Tool};
 use std::alloc::{AllocError, Global};
+use std::thread::Threads;
 
 fn show<T: Tree>(
     alloc: Global,
@@ -56,7 +60,8 @@ fn import<T: Tree>(
 }
 
 /// What a command asks to be printed.
-pub(crate) fn asked<T: Tree, S: Source, C: Clock>(
+pub(crate) fn asked<R: Threads + Sync, T: Tree, S: Source, C: Clock>(
+    rt: &R,
     alloc: Global,
     command: &Command,
     tree: &mut T,
@@ -75,6 +80,18 @@ pub(crate) fn asked<T: Tree, S: Source, C: Clock>(
 {
     let offset = command.offset;
     match &command.what {
+        Tool::Find {
+            zero,
+            count,
+            scope,
+            name,
+            mode,
+            text,
+        } => {
+            let query = search(alloc, text_of(name), *mode, text_of(text));
+            let output = output_of(*zero, *count);
+            find(rt, alloc, offset, query, scope, output, tree, clock)
+        }
         Tool::Show {
             raw,
             marker,
@@ -92,7 +109,8 @@ pub(crate) fn asked<T: Tree, S: Source, C: Clock>(
         Tool::Import { files } => import(alloc, offset, tree, files.as_slice()),
         Tool::Importers => Ok(plain(alloc, md_files::importers(alloc)?)),
         Tool::Attributes => Ok(plain(alloc, md_files::attributes(alloc)?)),
-        Tool::Live { workers: None } => live(alloc, offset, script, clock),
-        Tool::Find { .. } | Tool::Gen { .. } | Tool::Live { workers: Some(_) } => unreachable!(),
+        Tool::Live { workers: None } => live(alloc, offset, tree, script, clock),
+        Tool::Live { workers: Some(_) } => unreachable!(),
+        Tool::Gen { start, count } => Ok(plain(alloc, summarize(alloc, *start, *count)?)),
     }
 }

@@ -13,6 +13,7 @@ use crate::{Outcome, Status};
 use md_source::{Clock, PutEnd, Sink, Source, Tree, put_texts};
 use md_words::{Command, WordsError, read_words};
 use std::alloc::{AllocError, Global};
+use std::thread::Threads;
 
 // Puts both texts, where memory did not run out.
 fn print<K: Sink, E: Sink>(report: Result<Report, AllocError>, out: &mut K, err: &mut E) -> Outcome
@@ -34,13 +35,15 @@ fn print<K: Sink, E: Sink>(report: Result<Report, AllocError>, out: &mut K, err:
     Outcome { status }
 }
 
-/// Runs a command: `mdls` and `mdimport` over the tree, and `live` over the script and the clock, by a server of its own.
+/// Runs a command: `mdfind`, `mdls` and `mdimport` over the tree, `live` over the script, and `gen` over files that it makes.
 /// The whole text for `err` is put before that for `out`.
 ///
-/// The command is one that `read_words` gives. A tool calls only what it needs: `mdls` and `mdimport` the tree alone, the
-/// lists of importers and attributes nothing, `live` the script, which has at most 67,108,864 bytes and 100,000 lines, and
-/// then the clock once.
-pub fn run_tool<T: Tree, S: Source, C: Clock, K: Sink, E: Sink>(
+/// The command is one that `read_words` gives. A tool calls only what it needs: `mdfind` the clock once and then the tree,
+/// `mdls` and `mdimport` the tree alone, the lists of importers and attributes nothing, `live` the script, which has at most
+/// 67,108,864 bytes and 100,000 lines, then the clock once, and then the tree for the files that the script imports, and
+/// `gen` nothing. `mdfind` imports files in as many threads as there are processors.
+pub fn run_tool<R: Threads + Sync, T: Tree, S: Source, C: Clock, K: Sink, E: Sink>(
+    rt: &R,
     alloc: Global,
     command: &Command,
     tree: &mut T,
@@ -60,13 +63,14 @@ pub fn run_tool<T: Tree, S: Source, C: Clock, K: Sink, E: Sink>(
     ensures complete { IsReady command.now.offset (inputs (T.content tree.old) (T.faults tree.old) (S.left script.old) (S.faults script.old) (C.moment clock.old) (C.faults clock.old)) command.now.what → ¬ (InputFails (inputs (T.content tree.old) (T.faults tree.old) (S.left script.old) (S.faults script.old) (C.moment clock.old) (C.faults clock.old)) (inputs (T.content tree.new) (T.faults tree.new) (S.left script.new) (S.faults script.new) (C.moment clock.new) (C.faults clock.new))) → ¬ (OutputFails (outputs (E.taken err.old) (E.faults err.old) (K.taken out.old) (K.faults out.old)) (outputs (E.taken err.new) (E.faults err.new) (K.taken out.new) (K.faults out.new)))
         → (result.status ≡ Status.Memory) ⊎ IsWhole command.now.what (inputs (T.content tree.new) (T.faults tree.new) (S.left script.new) (S.faults script.new) (C.moment clock.new) (C.faults clock.new)) result.status }
 {
-    let report = asked(alloc, command, tree, script, clock);
+    let report = asked(rt, alloc, command, tree, script, clock);
     print(report, out, err)
 }
 
 /// The top call: reads the words of the program and runs their command by `run_tool`. Words that are not understood have a
 /// line on `err`, and nothing else is called.
-pub fn run<T: Tree, S: Source, C: Clock, K: Sink, E: Sink>(
+pub fn run<R: Threads + Sync, T: Tree, S: Source, C: Clock, K: Sink, E: Sink>(
+    rt: &R,
     alloc: Global,
     words: &[String],
     tree: &mut T,
@@ -88,7 +92,7 @@ pub fn run<T: Tree, S: Source, C: Clock, K: Sink, E: Sink>(
         → (result.status ≡ Status.Memory) ⊎ IsWhole command.what (inputs (T.content tree.new) (T.faults tree.new) (S.left script.new) (S.faults script.new) (C.moment clock.new) (C.faults clock.new)) result.status }
 {
     match read_words(alloc, words) {
-        Ok(command) => run_tool(alloc, &command, tree, script, clock, out, err),
+        Ok(command) => run_tool(rt, alloc, &command, tree, script, clock, out, err),
         Err(WordsError::Usage) => print(usage(alloc), out, err),
         Err(WordsError::Memory) => Outcome {
             status: Status::Memory,

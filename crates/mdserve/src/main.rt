@@ -34,6 +34,7 @@ fn main(rt: HostRuntime) -> ExitCode {
     let mut tree = Folder::new(rt);
     let mut clock = MachineClock::new(rt);
     let outcome = run(
+        &rt,
         alloc,
         &words,
         &mut tree,

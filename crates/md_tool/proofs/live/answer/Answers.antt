@@ -10,8 +10,8 @@ use Rattle.md_tool.proofs.live.answer.Goals as goal
 pub returns-in-Err : goal.returns-in-Err
 returns-in-Err g c =
     elim c.in-Err.ensures.refused [
-      | inl v ↦ ok_then _ _ (answers_refuses c.args.offset c.args.bytes.now _ _ c.in-Err.error v refl) c.refused.result c.refused.ensures.report
-      | inr want ↦ err_then _ c.refused.result (c.refused.ensures.memory want)
+      | inl v ↦ ok_then _ _ (answers_refuses c.args.offset c.args.bytes.now _ _ _ _ c.in-Err.error v refl refl) c.refused_script.result c.refused_script.ensures.report
+      | inr want ↦ err_then _ c.refused_script.result (c.refused_script.ensures.memory want)
     ]
 
 pub of_lines-requires-clause-few : goal.of_lines-requires-clause-few
@@ -25,7 +25,7 @@ returns-in-Ok-now g c =
     let shown : IsShown (record { told = g.C.Clock.moment c.args.clock.now; faults = g.C.Clock.faults c.args.clock.now }) (record { told = g.C.Clock.moment c.now.new.self; faults = g.C.Clock.faults c.now.new.self }) c.in-Ok-now.now =
     record { range = c.in-Ok-now.ensures.range; told = c.in-Ok-now.ensures.told; kept = c.in-Ok-now.ensures.cause.kept } in
     let made = simp to_z-of_z at c.of_lines.ensures in
-    ok_then _ _ (answers_runs c.args.offset c.args.bytes.now _ _ c.lines.result.now c.in-Ok-now.now read shown) c.of_lines.result made
+    ok_then _ _ (answers_runs c.args.offset c.args.bytes.now _ _ _ _ c.lines.result.now c.in-Ok-now.now read shown) c.of_lines.result made
 
 pub returns : goal.returns
-returns g c = ok_then _ _ (answers_unclocked c.args.offset c.args.bytes.now _ _ c.in-Ok.script c.in-Ok.ensures.ok c.in-Err-now.ensures.cause.failed) c.refusal.result c.refusal.ensures
+returns g c = ok_then _ _ (answers_unclocked c.args.offset c.args.bytes.now _ _ _ _ c.in-Ok.script c.in-Ok.ensures.ok c.in-Err-now.ensures.cause.failed refl) c.no_clock.result c.no_clock.ensures

@@ -1,21 +1,23 @@
 use Rattle.std.proofs.Common.{refl, rules}
-use Rattle.md_tool.specs.Outside.{Files, IsRead, inputs}
-use Rattle.md_tool.proofs.Causes.{live_tells}
+use Rattle.md_tool.specs.Outside.{IsRead, inputs}
+use Rattle.md_tool.proofs.LiveCauses.{live_tells}
 use Rattle.md_tool.proofs.Ending.{ok_then, lives_unread, lives_read}
 use Rattle.md_tool.proofs.live.live.Goals as goal
 
 pub returns-in-Err-Failed : goal.returns-in-Err-Failed
 returns-in-Err-Failed g c =
-    let old = λ (tree : Files). inputs tree.told tree.faults (g.S.Source.left c.args.script.now) (g.S.Source.faults c.args.script.now) (g.C.Clock.moment c.args.clock.now) (g.C.Clock.faults c.args.clock.now) in
-    let new = λ (tree : Files). inputs tree.told tree.faults (g.S.Source.left c.read_all.new.source) (g.S.Source.faults c.read_all.new.source) (g.C.Clock.moment c.args.clock.now) (g.C.Clock.faults c.args.clock.now) in
+    let asks = lives_unread c.args.offset
+    (inputs (g.T.Tree.content c.args.tree.now) (g.T.Tree.faults c.args.tree.now) (g.S.Source.left c.args.script.now) (g.S.Source.faults c.args.script.now) (g.C.Clock.moment c.args.clock.now) (g.C.Clock.faults c.args.clock.now))
+    (inputs (g.T.Tree.content c.args.tree.now) (g.T.Tree.faults c.args.tree.now) (g.S.Source.left c.read_all.new.source) (g.S.Source.faults c.read_all.new.source) (g.C.Clock.moment c.args.clock.now) (g.C.Clock.faults c.args.clock.now))
+    (search rules) refl refl in
     record {
-      asks = λ tree. ok_then _ _ (lives_unread c.args.offset (old tree) (new tree) (search rules) refl refl) c.refusal.result c.refusal.ensures;
-      tells = λ tree. ok_then _ _ (λ p e. live_tells c.args.offset (old tree) (new tree) p (lives_unread c.args.offset (old tree) (new tree) (search rules) refl refl p e)) c.refusal.result c.refusal.ensures;
+      asks = ok_then _ _ asks c.refusal.result c.refusal.ensures;
+      tells = ok_then _ _ (λ p e. live_tells c.args.offset _ _ p (asks p e)) c.refusal.result c.refusal.ensures;
     }
 
 pub returns-in_ok-report-in-Ok : goal.returns-in_ok-report-in-Ok
 returns-in_ok-report-in-Ok g c =
     let read : IsRead (record { told = g.S.Source.left c.args.script.now; faults = g.S.Source.faults c.args.script.now }) (record { told = g.S.Source.left c.read_all.new.source; faults = g.S.Source.faults c.read_all.new.source }) c.in-Ok.bytes.items =
     record { taken = c.in-Ok.ensures.taken; end = search rules; told = c.in-Ok.ensures.bytes; kept = c.in-Ok.ensures.kept } in
-    let asks = λ (tree : Files). lives_read c.args.offset _ _ c.in-Ok.bytes.items _ read (search rules) refl in
-    record { asks = λ tree. asks tree; tells = λ tree. live_tells c.args.offset _ _ _ (asks tree) }
+    let asks = lives_read c.args.offset _ _ c.in-Ok.bytes.items _ read (search rules) in
+    record { asks = asks; tells = live_tells c.args.offset _ _ _ asks }

@@ -1,7 +1,7 @@
-use Rattle.std.proofs.Common.{rules, FitsSigned, w32}
+use Rattle.std.proofs.Common.{inl, inr, sym, rules, FitsSigned, w32}
 use Rattle.std.proofs.lemmas.Int.{to_z-of_z}
-use Rattle.md_tool.specs.Outside.{Files, Bytes, Shown}
-use Rattle.md_tool.proofs.Ending.{ok_then, live_asks, live_tells_first}
+use Rattle.md_tool.specs.Outside.{Bytes, Shown}
+use Rattle.md_tool.proofs.Ending.{ok_then, err_then, live_asks, live_tells_first}
 use Rattle.md_tool.proofs.tools.asked.Goals as goal
 
 pub returns-in-Show-clause-asks : goal.returns-in-Show-clause-asks
@@ -35,11 +35,31 @@ returns-in-Import-clause-tells g c =
 pub returns-in-Live-None-clause-asks : goal.returns-in-Live-None-clause-asks
 returns-in-Live-None-clause-asks g c =
     let fits : FitsSigned w32 c.args.command.now.offset = search rules in
-    let tree : Files = record { told = g.T.Tree.content c.args.tree.now; faults = g.T.Tree.faults c.args.tree.now } in
-    ok_then _ _ (λ report of. live_asks _ _ _ _ _ c.in-Live-None.is (search rules) report (simp to_z-of_z at of)) c.live.result (c.live.ensures.asks tree)
+    ok_then _ _ (λ report of. live_asks _ _ _ _ _ c.in-Live-None.is (search rules) report (simp to_z-of_z at of)) c.live.result c.live.ensures.asks
 
 pub returns-in-Live-None-clause-tells : goal.returns-in-Live-None-clause-tells
 returns-in-Live-None-clause-tells g c =
     let fits : FitsSigned w32 c.args.command.now.offset = search rules in
-    let tree : Files = record { told = g.T.Tree.content c.args.tree.now; faults = g.T.Tree.faults c.args.tree.now } in
-    ok_then _ _ (λ report of. live_tells_first _ _ _ _ _ c.in-Live-None.is (search rules) report.status (simp to_z-of_z at of)) c.live.result (c.live.ensures.tells tree)
+    ok_then _ _ (λ report of. live_tells_first _ _ _ _ _ c.in-Live-None.is (search rules) report.status (simp to_z-of_z at of)) c.live.result c.live.ensures.tells
+
+pub returns-in-Find-clause-asks : goal.returns-in-Find-clause-asks
+returns-in-Find-clause-asks g c =
+    let fits : FitsSigned w32 c.args.command.now.offset = search rules in
+    let script : Bytes = record { told = g.S.Source.left c.args.script.now; faults = g.S.Source.faults c.args.script.now } in
+    elim c.search-query.ensures.answer [
+      | inl is ↦
+          ok_then _ _ (λ report of. rw c.in-Find.is (simp (to_z-of_z, is, c.text_of.ensures, c.text_of-in-Find.ensures, c.output_of-output.ensures) at of)) c.find.result (c.find.ensures.asks script)
+      | inr want ↦ err_then _ c.find.result (c.find.ensures.memory want)
+    ]
+
+pub returns-in-Find-clause-tells : goal.returns-in-Find-clause-tells
+returns-in-Find-clause-tells g c =
+    let fits : FitsSigned w32 c.args.command.now.offset = search rules in
+    let script : Bytes = record { told = g.S.Source.left c.args.script.now; faults = g.S.Source.faults c.args.script.now } in
+    elim c.search-query.ensures.answer [
+      | inl is ↦
+          let read = simp (c.text_of.ensures, c.text_of-in-Find.ensures) at (sym is) in
+          ok_then _ _ (λ report of. rw c.in-Find.is (simp to_z-of_z at of)) c.find.result
+          (c.find.ensures.tells script c.in-Find.zero c.in-Find.count c.in-Find.name c.in-Find.mode c.in-Find.text read)
+      | inr want ↦ err_then _ c.find.result (c.find.ensures.memory want)
+    ]
