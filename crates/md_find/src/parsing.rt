@@ -59,6 +59,7 @@ pub fn asked_files<R: Threads + Sync>(
                 ensures { IfOk result (λ made. made ≡ asked_file offset file.now) }
             { asked_file(alloc, file, offset) },
         )
+        // Without this, fewer than 2,048 files would be imported in one thread.
         .with_min_len(1)
         .collect::<Result<Vec<AskedFile>, AllocError>>(rt, alloc)?
 }
