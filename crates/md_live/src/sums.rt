@@ -25,7 +25,7 @@ pub struct Sum {
     /// How many rows that version's table has.
     pub rows: usize,
     pub tally: Tally,
-    /// How many rows each of the clients holds by its query 1 that were asked about.
+    /// For each of the clients that were asked about, how many rows it holds by its query 1.
     pub held: Items<usize>,
 }
 

@@ -2,4 +2,3 @@ mod Causes
 mod Ending
 mod FindCauses
 mod LiveCauses
-mod Scripts

@@ -4,7 +4,7 @@ use Rattle.md_script.specs.declared.script.Line.{Line}
 use Rattle.md_script.specs.Scripts.{verdict}
 use Rattle.md_tool.specs.Outside.{IsShown}
 use Rattle.md_tool.proofs.Ending.{ok_then, err_then, answers_refuses, answers_unclocked, answers_runs}
-use Rattle.md_tool.proofs.Scripts.{few_lines}
+use Rattle.md_live.proofs.Scripts.{few_lines}
 use Rattle.md_tool.proofs.live.answer.Goals as goal
 
 pub returns-in-Err : goal.returns-in-Err
