@@ -2,3 +2,4 @@ mod Causes
 mod Ending
 mod FindCauses
 mod LiveCauses
+mod Scripts
