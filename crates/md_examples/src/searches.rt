@@ -169,7 +169,6 @@ fn searches_are_refused(rt: HostRuntime) -> Result<(), Fail> {
 
 #[test]
 fn what_could_not_be_read_is_told(rt: HostRuntime) -> Result<(), Fail> {
-    let alloc = rt.alloc();
     // A file, a listing, and a file that no importer looks at, which is not read.
     let rows = [
         (
@@ -196,20 +195,40 @@ fn what_could_not_be_read_is_told(rt: HostRuntime) -> Result<(), Fail> {
     for (words, fails, want) in rows {
         assert_eq!(rt; told(&rt, words, fails)?.as_str(), want);
     }
-    let words = ["mdfind", "kMDItemFSName == \"*\""];
-    let empty = run_words(&rt, &words, b"", no_fails(alloc))?;
-    assert_eq!(rt; ending(alloc, &empty)?.as_str(), "0||");
+    Ok(())
+}
+
+// The words of a search for all files.
+const ALL: [&str; 2] = ["mdfind", "kMDItemFSName == \"*\""];
+
+#[test]
+fn an_empty_tree_has_no_hits(rt: HostRuntime) -> Result<(), Fail> {
+    let alloc = rt.alloc();
+    let ran = run_words(&rt, &ALL, b"", no_fails(alloc))?;
+    assert_eq!(rt; ending(alloc, &ran)?.as_str(), "0||");
+    Ok(())
+}
+
+#[test]
+fn a_search_reads_the_clock(rt: HostRuntime) -> Result<(), Fail> {
+    let alloc = rt.alloc();
     let mut fails = no_fails(alloc);
     fails.clock.push(0)?;
-    let ran = run_words(&rt, &words, b"", fails)?;
+    let ran = run_words(&rt, &ALL, b"", fails)?;
     assert_eq!(rt;
         ending(alloc, &ran)?.as_str(),
         "3||mdserve: clock could not be read\n"
     );
+    Ok(())
+}
+
+#[test]
+fn hits_that_are_not_put_whole_have_a_front(rt: HostRuntime) -> Result<(), Fail> {
+    let alloc = rt.alloc();
     let mut fails = no_fails(alloc);
     fails.out.push(2)?;
     let mut tree = tree_of(alloc, &[("a.txt", ""), ("b.txt", "")], Vec::new(alloc))?;
-    let ran = run_over(&rt, &mut tree, &words, b"", fails)?;
+    let ran = run_over(&rt, &mut tree, &ALL, b"", fails)?;
     assert_eq!(rt; ending(alloc, &ran)?.as_str(), "4|a.txt\nb.|");
     Ok(())
 }
