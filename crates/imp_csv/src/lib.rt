@@ -9,5 +9,3 @@ mod values;
 
 pub use attributes::fill;
 
-#[cfg(test)]
-mod tests;

@@ -8,5 +8,3 @@ mod values;
 
 pub use attributes::fill;
 
-#[cfg(test)]
-mod tests;

@@ -8,5 +8,3 @@ mod kind;
 pub use imports::{Imported, import};
 pub use kind::{FileKind, kind_of};
 
-#[cfg(test)]
-mod tests;

@@ -11,5 +11,3 @@ pub use files::{FileValues, file_attributes};
 pub use puts::{put_content, put_text, put_value, put_values};
 pub use values::{date_value, text_value};
 
-#[cfg(test)]
-mod tests;

@@ -19,5 +19,3 @@ pub fn fill(alloc: Global, text: &str) -> Result<Attrs, FillFault>
     Ok(attrs)
 }
 
-#[cfg(test)]
-mod tests;

@@ -2,8 +2,6 @@
 #![tactic(auto)]
 
 mod reading;
-#[cfg(test)]
-mod tests;
 
 pub use md_expr_parse::{MOST_COMPARISONS, MOST_GROUPS, ReadError};
 pub use md_expr_plain::{MOST_BYTES, interpret, named};

@@ -6,5 +6,3 @@ mod words;
 
 pub use plain::{MOST_BYTES, interpret, named};
 
-#[cfg(test)]
-mod tests;

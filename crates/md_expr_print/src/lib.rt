@@ -6,8 +6,6 @@ mod exprs;
 mod laws;
 mod literals;
 mod pushes;
-#[cfg(test)]
-mod tests;
 
 pub use exprs::print;
 pub use laws::spelling_reads_back;

@@ -15,5 +15,3 @@ pub use report::{End, Report};
 pub use showing::show;
 pub use tables::{attributes, importers};
 
-#[cfg(test)]
-mod tests;

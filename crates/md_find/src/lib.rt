@@ -11,5 +11,3 @@ mod searching;
 pub use finding::{Found, MOST_FILES, Output, Search, find};
 pub use searching::search;
 
-#[cfg(test)]
-mod tests;

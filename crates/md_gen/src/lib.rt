@@ -11,5 +11,3 @@ mod words;
 
 pub use made::{MOST_FILES, Made, make};
 
-#[cfg(test)]
-mod tests;

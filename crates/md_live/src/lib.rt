@@ -14,5 +14,3 @@ pub use sums::{Sum, sum_up};
 pub use tally::Tally;
 pub use time_forms::out_of_range;
 
-#[cfg(test)]
-mod tests;

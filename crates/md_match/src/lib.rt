@@ -12,5 +12,3 @@ mod wanted;
 pub use filter::{Filter, FilterError};
 pub use forms::first_out_of_range;
 
-#[cfg(test)]
-mod tests;

@@ -6,5 +6,3 @@ mod follower;
 
 pub use follower::Follower;
 
-#[cfg(test)]
-mod tests;

@@ -11,5 +11,3 @@ pub use attributes::attrs_text;
 pub use escapes::{escaped, push_path, push_shown, shown_path};
 pub use faults::{Failure, failure_text, fault_text};
 
-#[cfg(test)]
-mod tests;

@@ -9,5 +9,3 @@ pub use asking::{Answer, Ask, Effect};
 pub use query::Query;
 pub use tables::copy_rows;
 
-#[cfg(test)]
-mod tests;

@@ -11,5 +11,3 @@ pub use entries::{entry_text, push_entry};
 pub use held::held_text;
 pub use md_print::escaped;
 
-#[cfg(test)]
-mod tests;

@@ -18,5 +18,3 @@ pub use options::MOST_KEYS;
 pub use read::{MOST_BYTES, MOST_LINES, read_script};
 pub use script::{Line, Script, ScriptError, What};
 
-#[cfg(test)]
-mod tests;

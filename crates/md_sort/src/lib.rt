@@ -11,5 +11,3 @@ mod sorted;
 pub use laws::one_order;
 pub use sorted::Sorted;
 
-#[cfg(test)]
-mod tests;

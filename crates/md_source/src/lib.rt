@@ -32,5 +32,3 @@ pub use sure::{SureSink, SureSource};
 pub use sure_tree::SureTree;
 pub use tree::{Entry, ListEnd, ReadEnd, Tree};
 
-#[cfg(test)]
-mod tests;

@@ -6,5 +6,3 @@ mod summaries;
 
 pub use summaries::summarize;
 
-#[cfg(test)]
-mod tests;

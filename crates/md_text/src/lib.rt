@@ -5,8 +5,6 @@ mod characters;
 mod key;
 mod pattern;
 mod scan;
-#[cfg(test)]
-mod tests;
 
 pub use key::Key;
 pub use pattern::{Pattern, wild_decides};

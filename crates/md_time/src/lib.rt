@@ -15,5 +15,3 @@ pub use iso_text::IsoText;
 pub use print::print_moment;
 pub use range::{HIGH, LOW};
 
-#[cfg(test)]
-mod tests;

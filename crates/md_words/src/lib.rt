@@ -15,5 +15,3 @@ pub use command::{Command, Mode, Tool, WordsError};
 pub use read::read_words;
 pub use word::Word;
 
-#[cfg(test)]
-mod tests;

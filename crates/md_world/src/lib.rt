@@ -131,5 +131,3 @@ impl Copied for Notice {
     }
 }
 
-#[cfg(test)]
-mod tests;
