@@ -1,21 +1,20 @@
 -- Small runs, whose replies are computed.
 use Rattle.std.proofs.Common.{◌≡◌, ℕ, zero, suc, drop, true, false, List, [], ◌∷◌, ◌++◌, refl}
 use Rattle.std.specs.Prelude.{None, Some, codes, pos}
-use Rattle.md_value.specs.Attrs.{Attr}
+use Rattle.md_value.specs.Attrs.{Attr, text_content}
 use Rattle.md_value.specs.Values.{is_same, is_before}
 use Rattle.md_value.specs.declared.value.Value.TheVariants as value
 use Rattle.md_world.specs.declared.Row.{Row}
 use Rattle.md_world.specs.declared.Part.{Part}
 use Rattle.md_world.specs.declared.Limits.{Limits}
 use Rattle.md_world.specs.declared.Change.TheVariants.{Put, Remove}
-use Rattle.md_world.specs.Tables.{text_content}
 use Rattle.md_machine.specs.declared.Batch.{Batch}
-use Rattle.md_machine.specs.declared.TheConstants.Batch.{NONE}
+use Rattle.md_machine.specs.Answers.{no_batch}
 use Rattle.md_machine.specs.declared.Spec.{Spec}
 use Rattle.md_machine.specs.declared.Event.{Event}
 use Rattle.md_machine.specs.declared.Event.TheVariants as event
 use Rattle.md_machine.specs.declared.Reply.TheVariants as reply
-use Rattle.md_machine.specs.Answers.{asked, answer}
+use Rattle.md_machine.specs.Answers.{spec_of, answer}
 use Rattle.md_expr_tree.specs.declared.tree.Expr.{Expr}
 use Rattle.md_machine.specs.Runs.{run}
 
@@ -35,14 +34,14 @@ row name = record { path = name; attrs = (file_name, value.Text name ∷ []) ∷
 
 -- what asks for the files that satisfy the expression
 abbrev files_by : Expr → Batch → Spec
-files_by e batch = asked e (pos 0) (pos 0) [] [] batch
+files_by e batch = spec_of e (pos 0) (pos 0) [] [] batch
 
 -- every row satisfies the expression
 abbrev IsForAll : Expr → Type 0
 IsForAll e = (batch : Batch) (rows : List Row) → answer (files_by e batch) rows ≡ rows
 
 abbrev all_files : Expr → Spec
-all_files e = files_by e NONE
+all_files e = files_by e no_batch
 
 abbrev a_txt : List ℕ
 a_txt = codes "a.txt"

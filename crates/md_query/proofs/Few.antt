@@ -6,7 +6,8 @@ use Rattle.md_world.specs.Tables.{at, has_path}
 use Rattle.md_world.specs.Differences.{was_other, items_of}
 use Rattle.md_world.proofs.Lookups.{by_test}
 use Rattle.md_machine.specs.declared.Spec.{Spec}
-use Rattle.md_machine.specs.Answers.{keeps, answer, diff}
+use Rattle.md_match.specs.Conditions.{passes}
+use Rattle.md_machine.specs.Answers.{condition_of, answer, diff}
 
 few_pass : (t : Row → Bool) (rows : List Row) → length (filter t rows) ≤ length rows
 few_pass t [] = omega arith
@@ -16,7 +17,7 @@ few_pass t (row ∷ rows) =
 
 few_hits : (spec : Spec) (rows : List Row) → length (answer spec rows) ≤ length rows
 unfolding answer
-few_hits spec rows = few_pass (keeps spec) rows
+few_hits spec rows = few_pass (passes (condition_of spec)) rows
 
 -- each old row is an item once at most, and each new row twice
 pub few_items : (spec : Spec) (old new : List Row) → items_of (diff spec old new) ≤ length old + 2 * length new

@@ -1,5 +1,6 @@
 // The summary of a generated run.
 ghost use Rattle.std.specs.Prelude.{◌≡◌, ◌≤◌, ◌∷◌, [], IfOk, Ok, codes, length, string_bytes};
+ghost use Rattle.md_script.specs.Limits.{most_lines};
 ghost use Rattle.md_script.specs.Scripts.{verdict};
 ghost use Rattle.md_summary.specs.Summary.{Summarizes};
 
@@ -39,7 +40,7 @@ fn folders(alloc: Global) -> Result<Vec<Path>, AllocError>
 // reason, this would answer want of memory.
 fn read(alloc: Global, text: &str) -> Result<Script, AllocError>
     ensures script { IfOk result (λ script. verdict text.now ≡ Ok script) }
-    ensures few { IfOk result (λ script. length script ≤ 100_000) }
+    ensures few { IfOk result (λ script. length script ≤ most_lines) }
 {
     match read_script(alloc, text.as_bytes()) {
         Ok(script) => Ok(script),
