@@ -1,8 +1,8 @@
 -- The attributes that a file has by its entry and its bytes, or its first fault.
-use Rattle.std.specs.Prelude.{◌≡◌, ℕ, max, nat_lt, nat_eq, List, [], ◌∷◌, length, drop, if◌then◌else◌, Result, Ok, Err, ℤ}
-use Rattle.std.specs.List.{starts_with}
+use Rattle.std.specs.Prelude.{◌≡◌, ℕ, max, nat_lt, List, [], length, if◌then◌else◌, Result, Ok, Err, ℤ}
 use Rattle.std.specs.Str.{is_utf8}
 use Rattle.std.specs.Str.Lossy.{utf8_valid_len}
+use Rattle.csv.specs.Reading.{strip_bom}
 use Rattle.md_source.specs.declared.tree.Entry.{Entry}
 use Rattle.md_value.specs.Attrs.{Attr}
 use Rattle.md_value.specs.declared.fault.Fault.{Fault}
@@ -22,14 +22,6 @@ use Rattle.imp_kind.specs.declared.kind.FileKind.TheVariants as kind
 abbrev pub most_bytes : ℕ
 most_bytes = 16_777_216
 
--- the bytes of the byte order mark, U+FEFF in UTF-8
-abbrev pub mark : List ℕ
-mark = 239 ∷ 187 ∷ 191 ∷ []
-
--- a text without a byte order mark before it
-unfoldable pub without_mark : List ℕ → List ℕ
-without_mark text = if starts_with nat_eq text mark then drop 3 text else text
-
 -- the attributes that a text of a kind gives, or its first fault
 abbrev pub text_of_kind : FileKind → List ℕ → ℤ → Result (List Attr) Fault
 text_of_kind kind.Plain text offset = text_attributes text
@@ -37,10 +29,10 @@ text_of_kind kind.Json text offset = json_attributes text offset
 text_of_kind kind.Csv text offset = csv_attributes text offset
 text_of_kind kind.Other text offset = Ok []
 
--- those that the bytes of a file of a kind give: not too many, and UTF-8
+-- those that the bytes of a file of a kind give, without a byte order mark before them: not too many, and UTF-8
 abbrev pub bytes_of_kind : FileKind → List ℕ → ℤ → Result (List Attr) Fault
 bytes_of_kind kind bytes offset =
-    if is_utf8 bytes then text_of_kind kind (without_mark bytes) offset else Err (NotUtf8 (utf8_valid_len bytes))
+    if is_utf8 bytes then text_of_kind kind (strip_bom bytes) offset else Err (NotUtf8 (utf8_valid_len bytes))
 
 abbrev pub sized_bytes : FileKind → ℕ → List ℕ → ℤ → Result (List Attr) Fault
 sized_bytes kind size bytes offset = if nat_lt most_bytes size then Err (TooLarge size) else bytes_of_kind kind bytes offset

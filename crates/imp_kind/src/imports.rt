@@ -1,9 +1,10 @@
 // The import of a file.
-ghost use Rattle.std.specs.Prelude.{◌≡◌, nat_eq};
+ghost use Rattle.std.specs.Prelude.{◌≡◌, nat_eq, ◌∷◌, []};
 ghost use Rattle.std.specs.List.{starts_with};
 ghost use Rattle.md_value.specs.Values.{IsMoment};
 ghost use Rattle.imp_rules.specs.Faults.{Answers};
-ghost use Rattle.imp_kind.specs.Imports.{mark, without_mark, text_of_kind, bytes_of_kind, sized_bytes, content_attributes, import, IsImported};
+ghost use Rattle.csv.specs.Reading.{strip_bom};
+ghost use Rattle.imp_kind.specs.Imports.{text_of_kind, bytes_of_kind, sized_bytes, content_attributes, import, IsImported};
 
 use crate::base::put_base;
 use crate::{FileKind, kind_of};
@@ -23,16 +24,17 @@ pub enum Imported {
     Memory,
 }
 
+// Whether the byte order mark, U+FEFF in UTF-8, stands before the text.
 fn has_mark(text: &[u8]) -> bool
-    ensures { result ≡ starts_with nat_eq text.now mark }
+    ensures { result ≡ starts_with nat_eq text.now (239 ∷ 187 ∷ 191 ∷ []) }
 {
     text.starts_with(b"\xef\xbb\xbf")
 }
 
 // The text without a byte order mark before it.
-#[tactic(auto, unfolding(crate::specs::Imports::without_mark))]
+#[tactic(auto, using(crate::proofs::Marks::cut_off, crate::proofs::Marks::left_whole))]
 fn without_mark(text: &str) -> &str
-    ensures { result.now ≡ without_mark text.now }
+    ensures { result.now ≡ strip_bom text.now }
 {
     if has_mark(text.as_bytes()) {
         &text[3..]

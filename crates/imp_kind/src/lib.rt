@@ -7,4 +7,3 @@ mod kind;
 
 pub use imports::{Imported, import};
 pub use kind::{FileKind, kind_of};
-

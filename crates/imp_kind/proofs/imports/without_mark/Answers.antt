@@ -1,7 +1,6 @@
 use Rattle.std.proofs.Common.{sym, ◌∙◌, ap, nat_eq}
 use Rattle.std.specs.List.{starts_with}
-use Rattle.imp_kind.specs.Imports.{mark}
-use Rattle.imp_kind.proofs.Marks.{after_mark}
+use Rattle.imp_kind.proofs.Marks.{mark, after_mark}
 use Rattle.imp_kind.proofs.imports.without_mark.Goals as goal
 
 pub range_from-requires : goal.range_from-requires
