@@ -130,4 +130,3 @@ impl Copied for Notice {
         })
     }
 }
-
