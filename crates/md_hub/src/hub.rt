@@ -4,6 +4,7 @@ ghost use Rattle.md_machine.specs.Replies.{delivers, takes_memory};
 ghost use Rattle.md_machine.specs.States.{opening, ticket_at, query_at};
 ghost use Rattle.md_machine.specs.Steps.{step, asked};
 ghost use Rattle.std.specs.Option.{option_map};
+ghost use Rattle.md_world.specs.Tables.{IsTable};
 ghost use Rattle.md_query.specs.Asked.{answered};
 ghost use Rattle.md_hub.specs.Given.{given_by};
 ghost use Rattle.md_hub.specs.Verdicts.{verdict_of};
@@ -218,6 +219,7 @@ impl Hub {
         ensures copy { IfOk result (λ r. r.1 ≡ (asked self.old (answered self.old call.ask call.now_ms) (query_at self.old.queries call.client call.number)).reply) }
         ensures state { OnOk result (self.new ≡ (asked self.old (answered self.old call.ask call.now_ms) (query_at self.old.queries call.client call.number)).state) }
         ensures err { OnErr result (self.new ≡ self.old) }
+        ensures memory { OnErr result (takes_memory (asked self.old (answered self.old call.ask call.now_ms) (query_at self.old.queries call.client call.number)).reply ≡ true) }
     {
         let limits = self.limits;
         let reply = queries::ask_twice(
@@ -282,12 +284,13 @@ impl Hub {
         }
     }
 
-    /// The reply to an event, twice. Where memory runs out nothing has changed.
+    /// The reply to an event, twice. Memory runs out only at a reply that takes some, and then nothing has changed.
     pub fn twin(&mut self, alloc: Global, event: &Event) -> Result<(Reply, Reply), AllocError>
         ensures reply { IfOk result (λ r. r.0 ≡ (step self.old event.now).reply) }
         ensures copy { IfOk result (λ r. r.1 ≡ (step self.old event.now).reply) }
         ensures state { OnOk result (self.new ≡ (step self.old event.now).state) }
         ensures err { OnErr result (self.new ≡ self.old) }
+        ensures memory { OnErr result (takes_memory (step self.old event.now).reply ≡ true) }
     {
         match event {
             Event::Draw { path } => Ok(twice(self.draw(alloc, path)?)),
@@ -328,9 +331,10 @@ impl Hub {
         self.version
     }
 
-    /// A copy of the newest table.
+    /// A copy of the newest table, in path order. Fails only where memory runs out.
     pub fn rows(&self, alloc: Global) -> Result<Vec<Row>, AllocError>
         ensures rows { IfOk result (λ rows. rows.items ≡ self.now.table) }
+        ensures ordered { IfOk result (λ rows. IsTable rows.items) }
     {
         copy_rows(alloc, &self.table)
     }
