@@ -1,8 +1,8 @@
 // The server: tickets, versions and queries, one event at a time.
-ghost use Rattle.std.specs.Prelude.{◌≡◌, IfOk, OnOk, OnErr, true, false};
+ghost use Rattle.std.specs.Prelude.{◌≡◌, IfOk, IfSome, OnOk, OnErr, true, false};
 ghost use Rattle.md_machine.specs.Replies.{delivers, takes_memory};
 ghost use Rattle.md_machine.specs.States.{opening, ticket_at, query_at};
-ghost use Rattle.md_machine.specs.Steps.{step, asked};
+ghost use Rattle.md_machine.specs.Steps.{step, outcome_of};
 ghost use Rattle.std.specs.Option.{option_map};
 ghost use Rattle.md_world.specs.Tables.{IsTable};
 ghost use Rattle.md_query.specs.Asked.{answered};
@@ -25,9 +25,13 @@ use std::marker::Model;
 /// What becomes of a commit.
 #[derive(Clone, Copy, Debug, Drop)]
 pub enum Verdict {
+    /// No ticket of its number is open.
     NoTicket,
+    /// This newer ticket of its path was committed before.
     Superseded(u32),
+    /// No path more may be committed.
     Full,
+    /// It makes the next version.
     Fits,
 }
 
@@ -197,10 +201,10 @@ impl Hub {
     }
 
     fn ask(&mut self, alloc: Global, call: Call) -> Result<Reply, AllocError>
-        ensures reply { IfOk result (λ r. r ≡ (asked self.old (answered self.old call.ask call.now_ms) (query_at self.old.queries call.client call.number)).reply) }
-        ensures state { OnOk result (self.new ≡ (asked self.old (answered self.old call.ask call.now_ms) (query_at self.old.queries call.client call.number)).state) }
+        ensures reply { IfOk result (λ r. r ≡ (outcome_of self.old (answered self.old call.ask call.now_ms) (query_at self.old.queries call.client call.number)).reply) }
+        ensures state { OnOk result (self.new ≡ (outcome_of self.old (answered self.old call.ask call.now_ms) (query_at self.old.queries call.client call.number)).state) }
         ensures err { OnErr result (self.new ≡ self.old) }
-        ensures memory { OnErr result (takes_memory (asked self.old (answered self.old call.ask call.now_ms) (query_at self.old.queries call.client call.number)).reply ≡ true) }
+        ensures memory { OnErr result (takes_memory (outcome_of self.old (answered self.old call.ask call.now_ms) (query_at self.old.queries call.client call.number)).reply ≡ true) }
     {
         let limits = self.limits;
         let reply = queries::ask(
@@ -215,11 +219,11 @@ impl Hub {
     }
 
     fn ask_twice(&mut self, alloc: Global, call: Call) -> Result<(Reply, Reply), AllocError>
-        ensures reply { IfOk result (λ r. r.0 ≡ (asked self.old (answered self.old call.ask call.now_ms) (query_at self.old.queries call.client call.number)).reply) }
-        ensures copy { IfOk result (λ r. r.1 ≡ (asked self.old (answered self.old call.ask call.now_ms) (query_at self.old.queries call.client call.number)).reply) }
-        ensures state { OnOk result (self.new ≡ (asked self.old (answered self.old call.ask call.now_ms) (query_at self.old.queries call.client call.number)).state) }
+        ensures reply { IfOk result (λ r. r.0 ≡ (outcome_of self.old (answered self.old call.ask call.now_ms) (query_at self.old.queries call.client call.number)).reply) }
+        ensures copy { IfOk result (λ r. r.1 ≡ (outcome_of self.old (answered self.old call.ask call.now_ms) (query_at self.old.queries call.client call.number)).reply) }
+        ensures state { OnOk result (self.new ≡ (outcome_of self.old (answered self.old call.ask call.now_ms) (query_at self.old.queries call.client call.number)).state) }
         ensures err { OnErr result (self.new ≡ self.old) }
-        ensures memory { OnErr result (takes_memory (asked self.old (answered self.old call.ask call.now_ms) (query_at self.old.queries call.client call.number)).reply ≡ true) }
+        ensures memory { OnErr result (takes_memory (outcome_of self.old (answered self.old call.ask call.now_ms) (query_at self.old.queries call.client call.number)).reply ≡ true) }
     {
         let limits = self.limits;
         let reply = queries::ask_twice(
@@ -349,14 +353,13 @@ impl Hub {
         }
     }
 
-    /// What the live query of this client and number has given, if there is one. Fails only where memory runs out.
+    /// What the live query of this client and number has given, if there is one, with its rows in path order. Fails only
+    /// where memory runs out.
     pub fn held(&self, alloc: Global, client: u8, number: u32) -> Result<Option<Held>, AllocError>
-        ensures { IfOk result (λ held. held ≡ option_map given_by (query_at self.now.queries client number)) }
+        ensures given { IfOk result (λ held. held ≡ option_map given_by (query_at self.now.queries client number)) }
+        ensures ordered { IfOk result (λ held. IfSome held (λ given. IsTable given.rows)) }
     {
-        match queries::place_of(&self.queries, client, number) {
-            None => Ok(None),
-            Some(i) => Ok(Some(self.queries[i].held(alloc)?)),
-        }
+        queries::held(alloc, &self.queries, client, number)
     }
 }
 

@@ -6,7 +6,7 @@ use Rattle.std.proofs.lemmas.Bool.{lt-ltb, le-ltb, eq-eqb}
 use Rattle.md_value.specs.Values.{PathBytes, is_same}
 use Rattle.md_world.specs.declared.Change.{Change}
 use Rattle.md_world.specs.declared.Limits.{Limits}
-use Rattle.md_world.specs.declared.TheConstants.Limits.{STANDARD}
+use Rattle.md_world.specs.Limits.{standard}
 use Rattle.md_world.proofs.Lookups.{by_test}
 use Rattle.md_machine.specs.declared.Event.TheVariants as event
 use Rattle.md_machine.specs.declared.Reply.{Reply}
@@ -110,5 +110,5 @@ accepted_in_turn limits (file ∷ files) s drawn d v room =
 pub all_accepted : (limits : Limits) (files : List (PathBytes × Change)) → length files ≤ limits.tickets → length files ≤ limits.paths → (run limits (imports 0 files)).replies ≡ acceptances 0 files
 all_accepted limits files tickets paths = accepted_in_turn limits files (opening limits) 0 refl refl (opening_room limits (length files) tickets paths)
 
-pub standard_accepted : (files : List (PathBytes × Change)) → length files ≤ 1_000_000 → (run STANDARD (imports 0 files)).replies ≡ acceptances 0 files
-standard_accepted files few = all_accepted STANDARD files (omega arith) few
+pub standard_accepted : (files : List (PathBytes × Change)) → length files ≤ 1_000_000 → (run standard (imports 0 files)).replies ≡ acceptances 0 files
+standard_accepted files few = all_accepted standard files (omega arith) few

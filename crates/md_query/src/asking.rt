@@ -8,9 +8,13 @@ use md_world::Rows;
 /// What a query is asked.
 #[derive(Clone, Copy, Debug, Drop)]
 pub enum Ask {
+    /// For its next hits.
     Gather,
+    /// To disable updates once more.
     Disable,
+    /// To match a disable.
     Enable,
+    /// For what changed since.
     Poll,
 }
 

@@ -2,4 +2,4 @@ use Rattle.md_machine.proofs.Imports.{opening_room, next_accepted, all_accepted,
 use Rattle.md_machine.proofs.laws.imports_accepted.Goals as goal
 
 pub returns : goal.returns
-returns c = record { opening = opening_room; next = next_accepted; all = all_accepted; standard = standard_accepted }
+returns c = record { opening = opening_room; next = next_accepted; all = all_accepted; shipped = standard_accepted }
