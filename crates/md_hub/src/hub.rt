@@ -1,9 +1,10 @@
 // The server: tickets, versions and queries, one event at a time.
-ghost use Rattle.std.specs.Prelude.{◌≡◌, IfOk, OnOk, OnErr, true, false};
+ghost use Rattle.std.specs.Prelude.{◌≡◌, IfOk, IfSome, OnOk, OnErr, true, false};
 ghost use Rattle.md_machine.specs.Replies.{delivers, takes_memory};
 ghost use Rattle.md_machine.specs.States.{opening, ticket_at, query_at};
 ghost use Rattle.md_machine.specs.Steps.{step, outcome_of};
 ghost use Rattle.std.specs.Option.{option_map};
+ghost use Rattle.md_world.specs.Tables.{IsTable};
 ghost use Rattle.md_query.specs.Asked.{answered};
 ghost use Rattle.md_hub.specs.Given.{given_by};
 ghost use Rattle.md_hub.specs.Verdicts.{verdict_of};
@@ -24,9 +25,13 @@ use std::marker::Model;
 /// What becomes of a commit.
 #[derive(Clone, Copy, Debug, Drop)]
 pub enum Verdict {
+    /// No ticket of its number is open.
     NoTicket,
+    /// This newer ticket of its path was committed before.
     Superseded(u32),
+    /// No path more may be committed.
     Full,
+    /// It makes the next version.
     Fits,
 }
 
@@ -218,6 +223,7 @@ impl Hub {
         ensures copy { IfOk result (λ r. r.1 ≡ (outcome_of self.old (answered self.old call.ask call.now_ms) (query_at self.old.queries call.client call.number)).reply) }
         ensures state { OnOk result (self.new ≡ (outcome_of self.old (answered self.old call.ask call.now_ms) (query_at self.old.queries call.client call.number)).state) }
         ensures err { OnErr result (self.new ≡ self.old) }
+        ensures memory { OnErr result (takes_memory (outcome_of self.old (answered self.old call.ask call.now_ms) (query_at self.old.queries call.client call.number)).reply ≡ true) }
     {
         let limits = self.limits;
         let reply = queries::ask_twice(
@@ -282,12 +288,13 @@ impl Hub {
         }
     }
 
-    /// The reply to an event, twice. Where memory runs out nothing has changed.
+    /// The reply to an event, twice. Memory runs out only at a reply that takes some, and then nothing has changed.
     pub fn twin(&mut self, alloc: Global, event: &Event) -> Result<(Reply, Reply), AllocError>
         ensures reply { IfOk result (λ r. r.0 ≡ (step self.old event.now).reply) }
         ensures copy { IfOk result (λ r. r.1 ≡ (step self.old event.now).reply) }
         ensures state { OnOk result (self.new ≡ (step self.old event.now).state) }
         ensures err { OnErr result (self.new ≡ self.old) }
+        ensures memory { OnErr result (takes_memory (step self.old event.now).reply ≡ true) }
     {
         match event {
             Event::Draw { path } => Ok(twice(self.draw(alloc, path)?)),
@@ -328,9 +335,10 @@ impl Hub {
         self.version
     }
 
-    /// A copy of the newest table.
+    /// A copy of the newest table, in path order. Fails only where memory runs out.
     pub fn rows(&self, alloc: Global) -> Result<Vec<Row>, AllocError>
         ensures rows { IfOk result (λ rows. rows.items ≡ self.now.table) }
+        ensures ordered { IfOk result (λ rows. IsTable rows.items) }
     {
         copy_rows(alloc, &self.table)
     }
@@ -345,14 +353,13 @@ impl Hub {
         }
     }
 
-    /// What the live query of this client and number has given, if there is one. Fails only where memory runs out.
+    /// What the live query of this client and number has given, if there is one, with its rows in path order. Fails only
+    /// where memory runs out.
     pub fn held(&self, alloc: Global, client: u8, number: u32) -> Result<Option<Held>, AllocError>
-        ensures { IfOk result (λ held. held ≡ option_map given_by (query_at self.now.queries client number)) }
+        ensures given { IfOk result (λ held. held ≡ option_map given_by (query_at self.now.queries client number)) }
+        ensures ordered { IfOk result (λ held. IfSome held (λ given. IsTable given.rows)) }
     {
-        match queries::place_of(&self.queries, client, number) {
-            None => Ok(None),
-            Some(i) => Ok(Some(self.queries[i].held(alloc)?)),
-        }
+        queries::held(alloc, &self.queries, client, number)
     }
 }
 

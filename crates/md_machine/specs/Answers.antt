@@ -1,5 +1,5 @@
 -- What a query answers on a table, and how its answers on two tables differ.
-use Rattle.std.specs.Prelude.{ℕ, ◌==◌, Bool, false, List, ◌&&◌, Option, None, Some, filter, map, ℤ}
+use Rattle.std.specs.Prelude.{ℕ, ◌==◌, Bool, false, List, Option, None, Some, filter, map, ℤ}
 use Rattle.md_value.specs.Values.{PathBytes}
 use Rattle.md_expr_tree.specs.declared.tree.Expr.{Expr}
 use Rattle.md_match.specs.Conditions.{Condition, passes}

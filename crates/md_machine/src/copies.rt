@@ -1,6 +1,6 @@
 // Copies of specs and replies.
-ghost use Rattle.std.specs.Prelude.{◌≡◌, IfOk, IsOk, false};
-ghost use Rattle.md_machine.specs.Replies.{delivers};
+ghost use Rattle.std.specs.Prelude.{◌≡◌, IfOk, IsOk, OnErr, true, false};
+ghost use Rattle.md_machine.specs.Replies.{delivers, takes_memory};
 
 use crate::{Reply, Spec};
 use md_value::Copied;
@@ -59,6 +59,7 @@ impl Copied for Reply {
     fn copy(&self, alloc: Global) -> Result<Reply, AllocError>
         ensures copied { IfOk result (λ copied. copied ≡ self.now) }
         ensures plain { delivers self.now ≡ false → IsOk result }
+        ensures memory { OnErr result (takes_memory self.now ≡ true) }
     {
         Ok(match self {
             Reply::Progress(part) => Reply::Progress(part.copy(alloc)?),

@@ -8,9 +8,13 @@ use md_world::Rows;
 /// What a query is asked.
 #[derive(Clone, Copy, Debug, Drop)]
 pub enum Ask {
+    /// For its next hits.
     Gather,
+    /// To disable updates once more.
     Disable,
+    /// To match a disable.
     Enable,
+    /// For what changed since.
     Poll,
 }
 
@@ -30,10 +34,14 @@ pub enum Effect {
 }
 
 /// A reply with its effect.
-#[derive(Debug, Drop)]
-pub struct Answer {
-    pub reply: Reply,
-    pub effect: Effect,
+pub(crate) type Answer = (Reply, Effect);
+
+/// An answer that leaves the query as it is.
+pub(crate) fn kept(reply: Reply) -> Answer
+    ensures reply { result.0 ≡ reply }
+    ensures effect { result.1 ≡ Effect.Keep }
+{
+    (reply, Effect::Keep)
 }
 
 /// The greatest number of hits in the next part, after so many were given.

@@ -11,12 +11,12 @@ ghost use Rattle.md_query.specs.Rows.{rows_of};
 ghost use Rattle.md_query.specs.Standings.{query_of, nameless, is_finished};
 ghost use Rattle.md_query.specs.Asked.{newest_state, answered, settled};
 
-use crate::asking::{self, Answer, Ask, Effect};
+use crate::asking::{self, Answer, Ask, Effect, kept};
 use crate::tables;
 use md_machine::{Reply, Spec};
 use md_match::Filter;
 use md_value::Items;
-use md_world::{Limits, Order, Part, Row, Rows};
+use md_world::{Limits, Order, Row, Rows};
 use std::alloc::{AllocError, Global};
 use std::marker::Model;
 
@@ -55,17 +55,6 @@ impl Model for Query {
     ghost use Rattle.md_machine.specs.Answers.{condition_of};
 
     ghost invariant = { λ q. q.filter ≡ condition_of q.spec };
-}
-
-// An answer that leaves the query as it is.
-fn kept(reply: Reply) -> Answer
-    ensures reply { result.reply ≡ reply }
-    ensures effect { result.effect ≡ Effect.Keep }
-{
-    Answer {
-        reply,
-        effect: Effect::Keep,
-    }
 }
 
 impl Query {
@@ -144,18 +133,11 @@ impl Query {
     }
 
     fn last_part(&self, alloc: Global, left: &[&Row], now_ms: u64) -> Result<Answer, AllocError>
-        ensures reply { IfOk result (λ a. a.reply ≡ (last_part (nameless self.now) (map shown (rows_of left.now)) now_ms).reply) }
-        ensures query { IfOk result (λ a. nameless (settled self.now a.effect) ≡ (last_part (nameless self.now) (map shown (rows_of left.now)) now_ms).query) }
+        ensures reply { IfOk result (λ a. a.0 ≡ (last_part (nameless self.now) (map shown (rows_of left.now)) now_ms).reply) }
+        ensures query { IfOk result (λ a. nameless (settled self.now a.1) ≡ (last_part (nameless self.now) (map shown (rows_of left.now)) now_ms).query) }
     {
-        let hits = tables::shown(alloc, left)?;
-        let part = Part {
-            hits: Items::from_vec(hits),
-            last: true,
-        };
-        Ok(Answer {
-            reply: Reply::Finished(part, self.base),
-            effect: Effect::Finish(now_ms),
-        })
+        let part = tables::part(alloc, left, true)?;
+        Ok((Reply::Finished(part, self.base), Effect::Finish(now_ms)))
     }
 
     #[tactic(auto, using(crate::proofs::Hits::shown_front))]
@@ -168,18 +150,11 @@ impl Query {
     ) -> Result<Answer, AllocError>
         requires enough { most ≤ length left.now }
         requires room { given + most < 2 ^ 64 }
-        ensures reply { IfOk result (λ a. a.reply ≡ Reply.Progress (record { hits = take most (map shown (rows_of left.now)); last = false })) }
-        ensures query { IfOk result (λ a. nameless (settled self.now a.effect) ≡ record (nameless self.now) { phase = Gathering (given + most) }) }
+        ensures reply { IfOk result (λ a. a.0 ≡ Reply.Progress (record { hits = take most (map shown (rows_of left.now)); last = false })) }
+        ensures query { IfOk result (λ a. nameless (settled self.now a.1) ≡ record (nameless self.now) { phase = Gathering (given + most) }) }
     {
-        let hits = tables::shown(alloc, &left[..most])?;
-        let part = Part {
-            hits: Items::from_vec(hits),
-            last: false,
-        };
-        Ok(Answer {
-            reply: Reply::Progress(part),
-            effect: Effect::Give(given + most),
-        })
+        let part = tables::part(alloc, &left[..most], false)?;
+        Ok((Reply::Progress(part), Effect::Give(given + most)))
     }
 
     fn part(
@@ -190,8 +165,8 @@ impl Query {
         now_ms: u64,
     ) -> Result<Answer, AllocError>
         requires { 0 < length left.now → given + length left.now < 2 ^ 64 }
-        ensures reply { IfOk result (λ a. a.reply ≡ (next_part (nameless self.now) given (map shown (rows_of left.now)) (most_hits self.now.spec.batch given) now_ms).reply) }
-        ensures query { IfOk result (λ a. nameless (settled self.now a.effect) ≡ (next_part (nameless self.now) given (map shown (rows_of left.now)) (most_hits self.now.spec.batch given) now_ms).query) }
+        ensures reply { IfOk result (λ a. a.0 ≡ (next_part (nameless self.now) given (map shown (rows_of left.now)) (most_hits self.now.spec.batch given) now_ms).reply) }
+        ensures query { IfOk result (λ a. nameless (settled self.now a.1) ≡ (next_part (nameless self.now) given (map shown (rows_of left.now)) (most_hits self.now.spec.batch given) now_ms).query) }
     {
         match asking::most_hits(&self.spec.batch, given) {
             Some(most) if most as usize <= left.len() => {
@@ -203,8 +178,8 @@ impl Query {
 
     #[tactic(auto, using(crate::proofs::Hits::shown_left))]
     fn next_part(&self, alloc: Global, given: usize, now_ms: u64) -> Result<Answer, AllocError>
-        ensures reply { IfOk result (λ a. a.reply ≡ (next_part (nameless self.now) given (drop given (shown_answer self.now.spec self.now.rows)) (most_hits self.now.spec.batch given) now_ms).reply) }
-        ensures query { IfOk result (λ a. nameless (settled self.now a.effect) ≡ (next_part (nameless self.now) given (drop given (shown_answer self.now.spec self.now.rows)) (most_hits self.now.spec.batch given) now_ms).query) }
+        ensures reply { IfOk result (λ a. a.0 ≡ (next_part (nameless self.now) given (drop given (shown_answer self.now.spec self.now.rows)) (most_hits self.now.spec.batch given) now_ms).reply) }
+        ensures query { IfOk result (λ a. nameless (settled self.now a.1) ≡ (next_part (nameless self.now) given (drop given (shown_answer self.now.spec self.now.rows)) (most_hits self.now.spec.batch given) now_ms).query) }
         ensures memory { OnErr result (takes_memory (next_part (nameless self.now) given (drop given (shown_answer self.now.spec self.now.rows)) (most_hits self.now.spec.batch given) now_ms).reply ≡ true) }
     {
         let hits = self.hits(alloc, self.rows.as_slice())?;
@@ -213,8 +188,8 @@ impl Query {
     }
 
     fn gather(&self, alloc: Global, now_ms: u64) -> Result<Answer, AllocError>
-        ensures reply { IfOk result (λ a. a.reply ≡ (gather (nameless self.now) now_ms).reply) }
-        ensures query { IfOk result (λ a. nameless (settled self.now a.effect) ≡ (gather (nameless self.now) now_ms).query) }
+        ensures reply { IfOk result (λ a. a.0 ≡ (gather (nameless self.now) now_ms).reply) }
+        ensures query { IfOk result (λ a. nameless (settled self.now a.1) ≡ (gather (nameless self.now) now_ms).query) }
         ensures memory { OnErr result (takes_memory (gather (nameless self.now) now_ms).reply ≡ true) }
     {
         match self.phase {
@@ -230,14 +205,12 @@ impl Query {
     }
 
     fn disable(&self, limits: &Limits) -> Answer
-        ensures reply { result.reply ≡ (disable limits.now (nameless self.now)).reply }
-        ensures query { nameless (settled self.now result.effect) ≡ (disable limits.now (nameless self.now)).query }
+        ensures reply { result.0 ≡ (disable limits.now (nameless self.now)).reply }
+        ensures query { nameless (settled self.now result.1) ≡ (disable limits.now (nameless self.now)).query }
     {
         if self.disables < limits.disables {
-            Answer {
-                reply: Reply::Disabled(self.disables + 1),
-                effect: Effect::Count(self.disables + 1),
-            }
+            let count = self.disables + 1;
+            (Reply::Disabled(count), Effect::Count(count))
         } else {
             kept(Reply::TooDeep)
         }
@@ -250,17 +223,17 @@ impl Query {
         version: u32,
         table: &[Row],
     ) -> Result<Answer, AllocError>
-        ensures reply { IfOk result (λ a. a.reply ≡ Reply.Notice (notice_of (diff self.now.spec self.now.rows table.now) self.now.base version)) }
-        ensures query { IfOk result (λ a. nameless (settled self.now a.effect) ≡ record (nameless self.now) { base = version; rows = table.now; disables = 0; delivered = now_ms }) }
+        ensures reply { IfOk result (λ a. a.0 ≡ Reply.Notice (notice_of (diff self.now.spec self.now.rows table.now) self.now.base version)) }
+        ensures query { IfOk result (λ a. nameless (settled self.now a.1) ≡ record (nameless self.now) { base = version; rows = table.now; disables = 0; delivered = now_ms }) }
     {
         let old = self.hits(alloc, self.rows.as_slice())?;
         let new = self.hits(alloc, table)?;
         let notice = tables::notice(alloc, &old, &new, self.base, version)?;
         let rows = tables::copy_rows(alloc, table)?;
-        Ok(Answer {
-            reply: Reply::Notice(notice),
-            effect: Effect::Deliver(version, Items::from_vec(rows), now_ms),
-        })
+        Ok((
+            Reply::Notice(notice),
+            Effect::Deliver(version, Items::from_vec(rows), now_ms),
+        ))
     }
 
     fn count_pending(&self, alloc: Global, table: &[Row]) -> Result<usize, AllocError>
@@ -279,8 +252,8 @@ impl Query {
         table: &[Row],
         limits: &Limits,
     ) -> Result<Answer, AllocError>
-        ensures reply { IfOk result (λ a. a.reply ≡ (enable (newest_state limits.now version table.now) (nameless self.now) now_ms).reply) }
-        ensures query { IfOk result (λ a. nameless (settled self.now a.effect) ≡ (enable (newest_state limits.now version table.now) (nameless self.now) now_ms).query) }
+        ensures reply { IfOk result (λ a. a.0 ≡ (enable (newest_state limits.now version table.now) (nameless self.now) now_ms).reply) }
+        ensures query { IfOk result (λ a. nameless (settled self.now a.1) ≡ (enable (newest_state limits.now version table.now) (nameless self.now) now_ms).query) }
         ensures memory { OnErr result (takes_memory (enable (newest_state limits.now version table.now) (nameless self.now) now_ms).reply ≡ true) }
     {
         if self.disables == 0 {
@@ -288,16 +261,10 @@ impl Query {
         }
         let left = self.disables - 1;
         if left > 0 {
-            return Ok(Answer {
-                reply: Reply::StillDisabled(left),
-                effect: Effect::Count(left),
-            });
+            return Ok((Reply::StillDisabled(left), Effect::Count(left)));
         }
         match self.phase {
-            Progressed::Gathering(_) => Ok(Answer {
-                reply: Reply::Resumed,
-                effect: Effect::Count(0),
-            }),
+            Progressed::Gathering(_) => Ok((Reply::Resumed, Effect::Count(0))),
             Progressed::Finished => self.deliver(alloc, now_ms, version, table),
         }
     }
@@ -313,8 +280,8 @@ impl Query {
         requires finished { self.now.phase ≡ Finished }
         requires not_held { self.now.disables ≡ 0 }
         requires few { items_of (diff self.now.spec self.now.rows table.now) ≤ version }
-        ensures reply { IfOk result (λ a. a.reply ≡ (poll (newest_state limits.now version table.now) (nameless self.now) now_ms).reply) }
-        ensures query { IfOk result (λ a. nameless (settled self.now a.effect) ≡ (poll (newest_state limits.now version table.now) (nameless self.now) now_ms).query) }
+        ensures reply { IfOk result (λ a. a.0 ≡ (poll (newest_state limits.now version table.now) (nameless self.now) now_ms).reply) }
+        ensures query { IfOk result (λ a. nameless (settled self.now a.1) ≡ (poll (newest_state limits.now version table.now) (nameless self.now) now_ms).query) }
         ensures memory { OnErr result (takes_memory (poll (newest_state limits.now version table.now) (nameless self.now) now_ms).reply ≡ true) }
     {
         let items = self.count_pending(alloc, table)?;
@@ -337,8 +304,8 @@ impl Query {
         limits: &Limits,
     ) -> Result<Answer, AllocError>
         requires { items_of (diff self.now.spec self.now.rows table.now) ≤ version }
-        ensures reply { IfOk result (λ a. a.reply ≡ (poll (newest_state limits.now version table.now) (nameless self.now) now_ms).reply) }
-        ensures query { IfOk result (λ a. nameless (settled self.now a.effect) ≡ (poll (newest_state limits.now version table.now) (nameless self.now) now_ms).query) }
+        ensures reply { IfOk result (λ a. a.0 ≡ (poll (newest_state limits.now version table.now) (nameless self.now) now_ms).reply) }
+        ensures query { IfOk result (λ a. nameless (settled self.now a.1) ≡ (poll (newest_state limits.now version table.now) (nameless self.now) now_ms).query) }
         ensures memory { OnErr result (takes_memory (poll (newest_state limits.now version table.now) (nameless self.now) now_ms).reply ≡ true) }
     {
         match self.phase {
@@ -364,8 +331,8 @@ impl Query {
         limits: &Limits,
     ) -> Result<Answer, AllocError>
         requires { items_of (diff self.now.spec self.now.rows table.now) ≤ newest }
-        ensures reply { IfOk result (λ a. a.reply ≡ (answered (newest_state limits.now newest table.now) ask now_ms (nameless self.now)).reply) }
-        ensures query { IfOk result (λ a. nameless (settled self.now a.effect) ≡ (answered (newest_state limits.now newest table.now) ask now_ms (nameless self.now)).query) }
+        ensures reply { IfOk result (λ a. a.0 ≡ (answered (newest_state limits.now newest table.now) ask now_ms (nameless self.now)).reply) }
+        ensures query { IfOk result (λ a. nameless (settled self.now a.1) ≡ (answered (newest_state limits.now newest table.now) ask now_ms (nameless self.now)).query) }
         ensures memory { OnErr result (takes_memory (answered (newest_state limits.now newest table.now) ask now_ms (nameless self.now)).reply ≡ true) }
     {
         match ask {
@@ -386,13 +353,13 @@ impl Query {
         newest: u32,
         table: &[Row],
         limits: &Limits,
-    ) -> Result<Answer, AllocError>
+    ) -> Result<(Reply, Effect), AllocError>
         // There are no fewer versions than items that differ from the base.
         requires { items_of (diff self.now.spec self.now.rows table.now) ≤ newest }
         // The reply is the machine's, whatever the query's client and number.
-        ensures reply { IfOk result (λ a. (client number : ℕ) → a.reply ≡ (answered (newest_state limits.now newest table.now) ask now_ms (query_of client number self.now)).reply) }
+        ensures reply { IfOk result (λ a. (client number : ℕ) → a.0 ≡ (answered (newest_state limits.now newest table.now) ask now_ms (query_of client number self.now)).reply) }
         // The effect makes of the query what the machine makes of it.
-        ensures query { IfOk result (λ a. (client number : ℕ) → query_of client number (settled self.now a.effect) ≡ (answered (newest_state limits.now newest table.now) ask now_ms (query_of client number self.now)).query) }
+        ensures query { IfOk result (λ a. (client number : ℕ) → query_of client number (settled self.now a.1) ≡ (answered (newest_state limits.now newest table.now) ask now_ms (query_of client number self.now)).query) }
         // Memory runs out at a reply that takes some.
         ensures memory { OnErr result ((client number : ℕ) → takes_memory (answered (newest_state limits.now newest table.now) ask now_ms (query_of client number self.now)).reply ≡ true) }
     {

@@ -9,7 +9,7 @@ ghost use Rattle.md_query.specs.Rows.{rows_of};
 
 use md_match::Filter;
 use md_value::{Copied, Items, Path};
-use md_world::{Notice, Row};
+use md_world::{Notice, Part, Row};
 use std::alloc::{AllocError, Global};
 
 /// The rows of a table that pass the filter, in the table's order. No other function tests a row.
@@ -169,6 +169,16 @@ pub fn shown(alloc: Global, hits: &[&Row]) -> Result<Vec<Row>, AllocError>
         rows.push(hit.shown(alloc)?)?;
     }
     Ok(rows)
+}
+
+/// A part of these hits.
+pub fn part(alloc: Global, hits: &[&Row], last: bool) -> Result<Part, AllocError>
+    ensures { IfOk result (λ part. part ≡ record { hits = map shown (rows_of hits.now); last = last }) }
+{
+    Ok(Part {
+        hits: Items::from_vec(shown(alloc, hits)?),
+        last,
+    })
 }
 
 /// A copy of the rows.

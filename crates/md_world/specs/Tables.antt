@@ -66,3 +66,8 @@ shown row = record { path = row.path; attrs = without_name text_content row.attr
 -- whether two rows are the same, path and attributes
 abbrev pub same_row : Row → Row → Bool
 same_row a b = is_same a.path b.path && same_attrs a.attrs b.attrs
+
+-- each path stands after the one before it, and the first after this one
+abbrev pub AscendFrom : PathBytes → List PathBytes → Type 0
+AscendFrom least [] = Unit {0}
+AscendFrom least (path ∷ paths) = (is_before least path ≡ true) × AscendFrom path paths

@@ -12,5 +12,5 @@ returns c =
     let is : c.take_part.new.self ≡ followed held =
     follows_so held c.new-follower.result c.take_part.new.self begun.order begun.rows begun.version took.rows took.order took.version in
     ap Some is
-    ∙ ap (option_map followed) (sym c.in-Some.is ∙ c.in_ok-held.ensures)
+    ∙ ap (option_map followed) (sym c.in-Some.is ∙ c.in_ok-held.ensures.given)
     ∙ ap (λ (t : Telling). followed_in t.state c.args.client c.args.number) c.self.view_is

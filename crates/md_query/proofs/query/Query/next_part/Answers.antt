@@ -13,10 +13,10 @@ pub returns-clause-reply : goal.returns-clause-reply
 returns-clause-reply c =
     let q = c.args.self.now in
     let left : map shown (rows_of c.hits_after-left.result.now) ≡ drop c.args.given (shown_answer q.spec q.rows) = search (rules, shown_left) in
-    subst (λ (left : List Row). IfOk c.part.result (λ a. a.reply ≡ (next_part (nameless q) c.args.given left (most_hits q.spec.batch c.args.given) c.args.now_ms).reply)) left c.part.ensures.reply
+    subst (λ (left : List Row). IfOk c.part.result (λ a. a.0 ≡ (next_part (nameless q) c.args.given left (most_hits q.spec.batch c.args.given) c.args.now_ms).reply)) left c.part.ensures.reply
 
 pub returns-clause-query : goal.returns-clause-query
 returns-clause-query c =
     let q = c.args.self.now in
     let left : map shown (rows_of c.hits_after-left.result.now) ≡ drop c.args.given (shown_answer q.spec q.rows) = search (rules, shown_left) in
-    subst (λ (left : List Row). IfOk c.part.result (λ a. nameless (settled q a.effect) ≡ (next_part (nameless q) c.args.given left (most_hits q.spec.batch c.args.given) c.args.now_ms).query)) left c.part.ensures.query
+    subst (λ (left : List Row). IfOk c.part.result (λ a. nameless (settled q a.1) ≡ (next_part (nameless q) c.args.given left (most_hits q.spec.batch c.args.given) c.args.now_ms).query)) left c.part.ensures.query

@@ -14,4 +14,4 @@ pub returns-clause-query : goal.returns-clause-query
 returns-clause-query c =
     let q = c.args.self.now in
     let s = newest_state c.args.limits.now c.args.newest c.args.table.now in
-    IfOk-weaker c.answer.result _ _ (λ a same client number. query_of_any client number q s c.args.ask c.args.now_ms (settled q a.effect) same) c.answer.ensures.query
+    IfOk-weaker c.answer.result _ _ (λ a same client number. query_of_any client number q s c.args.ask c.args.now_ms (settled q a.1) same) c.answer.ensures.query
