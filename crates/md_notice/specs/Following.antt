@@ -1,16 +1,20 @@
 -- What a follower holds, and what it makes of what it is given.
-use Rattle.std.specs.Prelude.{ℕ, List, [], ◌∷◌, fold, Option, None, Some, slice_get}
+use Rattle.std.specs.Prelude.{◌≡◌, ℕ, List, [], ◌∷◌, fold, Option, None, Some, slice_get}
 use Rattle.md_value.specs.Attrs.{get}
 use Rattle.md_value.specs.declared.value.Value.{Value}
 use Rattle.md_world.specs.declared.Row.{Row}
 use Rattle.md_world.specs.declared.Part.{Part}
 use Rattle.md_world.specs.declared.Notice.{Notice}
+use Rattle.md_world.specs.declared.Limits.{Limits}
 use Rattle.md_world.specs.declared.order.SortKey.{SortKey}
 use Rattle.md_world.specs.Holding.{after_part, after_notice}
 use Rattle.md_world.specs.Orders.{in_order}
 use Rattle.md_machine.specs.declared.Reply.{Reply}
 use Rattle.md_machine.specs.declared.Reply.TheVariants as reply
+use Rattle.md_machine.specs.declared.Event.{Event}
+use Rattle.md_machine.specs.States.{Query}
 use Rattle.md_machine.specs.Runs.{held}
+use Rattle.md_machine.specs.Laws.{told_to}
 
 -- the rows in their order, and the version that they are of
 pub record Followed : Type 0 where
@@ -68,6 +72,15 @@ shown_of order replies =
       rows = in_order order (held replies);
       version = fold version_after (created_on replies) replies;
     }
+
+-- where the reply is a notice, it goes from this version
+abbrev pub GoesFrom : ℕ → Reply → Type 0
+GoesFrom version (reply.Notice notice) = notice.from ≡ version
+GoesFrom version _ = Unit {0}
+
+-- the follower of a live query, which was given all replies to it
+abbrev pub follower_in : Limits → List Event → Query → Followed
+follower_in limits events q = follower_told q.spec.order (told_to limits events q)
 
 -- the values of the attribute of a name at a place
 abbrev pub values_in : Option Row → List ℕ → Option (List Value)
