@@ -1,11 +1,9 @@
 -- What a live query has given is what its client holds.
-use Rattle.std.proofs.Common.{◌≡◌, ℕ, List, [], ◌∷◌, length, fold, refl, sym, ◌∙◌, ap, subst, Some, None}
+use Rattle.std.proofs.Common.{◌≡◌, ℕ, true, List, [], ◌∷◌, length, fold, refl, sym, ◌∙◌, ap, subst, Some, None}
 use Rattle.std.specs.Option.{option_map}
-use Rattle.std.proofs.lemmas.List.Sorted.{IsPermutation-refl}
 use Rattle.md_world.specs.Tables.{IsTable}
 use Rattle.md_world.specs.Holding.{with_rows, without_paths}
-use Rattle.md_world.specs.Orders.{IsInOrder, in_order}
-use Rattle.md_world.specs.declared.order.SortKey.{SortKey}
+use Rattle.md_world.specs.Orders.{in_order}
 use Rattle.md_world.specs.declared.Row.{Row}
 use Rattle.md_world.specs.Limits.{standard}
 use Rattle.md_world.proofs.Tables.{table_with_rows, table_without_paths, with_rows_append}
@@ -18,8 +16,7 @@ use Rattle.md_machine.proofs.Law.{held_is_answer}
 use Rattle.md_machine.proofs.Queries.{key_of, found_key, own_place}
 use Rattle.md_hub.specs.Given.{given_by}
 use Rattle.md_hub.specs.declared.held.Held.{Held}
-use Rattle.md_notice.specs.Following.{Followed, Follows}
-use Rattle.md_sort.proofs.Alone.{is_there, is_alone, table_differ}
+use Rattle.md_notice.specs.Following.{Followed, follower_of, with_part}
 use Rattle.md_render.specs.Texts.{held_text, follower_text}
 use Rattle.md_live.specs.Texts.{shown_text}
 use Rattle.md_live.specs.Sums.{held_count}
@@ -81,18 +78,6 @@ module _ (events : List Event) (client number : ℕ) where
         | Some q ↦ λ found. ap (λ rows. held_text client number q.base (in_order q.spec.order rows)) (given_held q found)
       ] refl
 
-abbrev following : List SortKey → List Row → ℕ → Followed
-following order rows version = record { order = order; rows = rows; version = version }
-
 -- a follower that took the hits given holds them in order
-pub follows_so : (given : Held) (old new : Followed) → old.order ≡ given.order → old.rows ≡ [] → old.version ≡ given.version
-    → Follows (λ table. with_rows table given.rows) old new → new.order ≡ old.order → new.version ≡ old.version → new ≡ followed given
-follows_so given old new order rows version follows same_order same_version =
-    let table = with_rows [] given.rows in
-    let keys : new.order ≡ given.order = same_order ∙ order in
-    let none : IsInOrder old.order [] old.rows = subst (λ held. IsInOrder old.order [] held) (sym rows) (record { same_rows = IsPermutation-refl []; ascends = tt }) in
-    let shown : IsInOrder given.order table new.rows = subst (λ (k : List SortKey). IsInOrder k table new.rows) keys (follows [] tt none) in
-    let there = is_there given.order table (table_differ table (table_with_rows [] given.rows tt)) in
-    let ordered : new.rows ≡ in_order given.order table = is_alone given.order table new.rows (in_order given.order table) shown there in
-    let numbered : new.version ≡ given.version = same_version ∙ version in
-    ap (λ keys. following keys new.rows new.version) keys ∙ ap (λ rows. following given.order rows new.version) ordered ∙ ap (following given.order (in_order given.order table)) numbered
+pub follows_so : (given : Held) (old new : Followed) → old ≡ follower_of given.order given.version → new ≡ with_part old (record { hits = given.rows; last = true }) → new ≡ followed given
+follows_so given old new begun took = took ∙ ap (λ (f : Followed). with_part f (record { hits = given.rows; last = true })) begun

@@ -1,3 +1,4 @@
 pub mod Listed
 pub mod Plain
 pub mod Pushed
+pub mod Ranges

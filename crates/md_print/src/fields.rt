@@ -1,8 +1,8 @@
 // The texts of names with what a file has of them.
-ghost use Rattle.std.specs.Prelude.{◌≡◌, ◌-◌, ◌++◌, OnOk, string_bytes, map};
+ghost use Rattle.std.specs.Prelude.{◌≡◌, ◌-◌, ◌++◌, IfSome, OnOk, string_bytes, map, All};
 ghost use Rattle.std.specs.Option.{option_map};
 ghost use Rattle.std.proofs.Math.ListN.{replicate};
-ghost use Rattle.md_value.specs.Values.{is_same};
+ghost use Rattle.md_value.specs.Values.{IsInRange, is_same};
 ghost use Rattle.md_value.specs.Attrs.{text_content};
 ghost use Rattle.md_print.specs.Attributes.{field_line, field_text, lines_text, longest, printed_values, raw_text};
 
@@ -18,11 +18,13 @@ pub(crate) fn is_text_content(name: &Name) -> bool
 }
 
 fn printed_values<'a>(attrs: &'a Attrs, name: &Name) -> Option<&'a [Value]>
-    ensures { option_map (λ values. values.now) result ≡ printed_values attrs.now name.now }
+    ensures value { option_map (λ values. values.now) result ≡ printed_values attrs.now name.now }
+    ensures in_range { IfSome result (λ values. All IsInRange values.now) }
 {
     if is_text_content(name) {
         return None;
     }
+    attrs.has_shape();
     attrs.get(name)
 }
 

@@ -1,21 +1,19 @@
 // The text of an attribute's values.
-ghost use Rattle.std.specs.Prelude.{◌≡◌, ◌++◌, OnOk, string_bytes, codes};
+ghost use Rattle.std.specs.Prelude.{◌≡◌, ◌++◌, OnOk, string_bytes, codes, All};
 ghost use Rattle.std.specs.List.{join_by};
+ghost use Rattle.md_value.specs.Values.{IsInRange, IsMoment};
 ghost use Rattle.md_time.specs.Printed.{moment_text};
 ghost use Rattle.md_print.specs.Attributes.{flag_text, is_many, list_text, single_text, value_text, values_text};
 
 use crate::escapes::push_quoted;
 use md_time::print_moment;
-use md_value::{HIGH, LOW, Name, Value, schema_of};
+use md_value::{Name, Value, schema_of};
 use std::alloc::{AllocError, Global};
 
-// Every moment of an attribute is in range: no clause on attributes tells it, and so it is tested.
 fn push_moment(alloc: Global, text: &mut String, moment: i64) -> Result<(), AllocError>
+    requires { IsMoment moment }
     ensures { OnOk result (string_bytes text.new ≡ string_bytes text.old ++ moment_text moment) }
 {
-    if moment < LOW || moment > HIGH {
-        return Err(AllocError);
-    }
     let shown = print_moment(alloc, moment)?;
     text.push_str(&shown)
 }
@@ -27,6 +25,7 @@ fn push_flag(text: &mut String, flag: bool) -> Result<(), AllocError>
 }
 
 fn push_value(alloc: Global, text: &mut String, value: &Value) -> Result<(), AllocError>
+    requires { IsInRange value.now }
     ensures { OnOk result (string_bytes text.new ≡ string_bytes text.old ++ value_text value.now) }
 {
     match value {
@@ -39,6 +38,7 @@ fn push_value(alloc: Global, text: &mut String, value: &Value) -> Result<(), All
 
 // A text that is printed raw is its bytes alone.
 fn push_single(alloc: Global, text: &mut String, value: &Value, raw: bool) -> Result<(), AllocError>
+    requires { IsInRange value.now }
     ensures { OnOk result (string_bytes text.new ≡ string_bytes text.old ++ single_text raw value.now) }
 {
     match value {
@@ -48,6 +48,7 @@ fn push_single(alloc: Global, text: &mut String, value: &Value, raw: bool) -> Re
 }
 
 fn push_joined(alloc: Global, text: &mut String, values: &[Value]) -> Result<(), AllocError>
+    requires { All IsInRange values.now }
     ensures { OnOk result (string_bytes text.new ≡ string_bytes text.old ++ join_by value_text (codes ",\n    ") values.now) }
 {
     let [first, rest @ ..] = values else {
@@ -63,6 +64,7 @@ fn push_joined(alloc: Global, text: &mut String, values: &[Value]) -> Result<(),
 
 #[tactic(auto, unfolding(crate::specs::Attributes::list_text))]
 fn push_list(alloc: Global, text: &mut String, values: &[Value]) -> Result<(), AllocError>
+    requires { All IsInRange values.now }
     ensures { OnOk result (string_bytes text.new ≡ string_bytes text.old ++ list_text values.now) }
 {
     text.push_str("(\n    ")?;
@@ -84,6 +86,7 @@ pub(crate) fn push_values(
     values: &[Value],
     raw: bool,
 ) -> Result<(), AllocError>
+    requires { All IsInRange values.now }
     ensures { OnOk result (string_bytes text.new ≡ string_bytes text.old ++ values_text raw name.now values.now) }
 {
     match values {

@@ -15,9 +15,9 @@ use Rattle.md_world.specs.declared.order.SortKey.{SortKey}
 use Rattle.md_world.specs.Tables.{StandAfter, IsTable, with_row, without_path, same_row}
 use Rattle.md_world.specs.Orders.{row_before, IsOrdered, IsInOrder, in_order}
 use Rattle.md_world.proofs.Lookups.{by_test, row_exact}
-use Rattle.md_sort.specs.Kept.{PathsDiffer}
+use Rattle.md_sort.specs.Kept.{PathsDiffer, AreKept}
 use Rattle.md_sort.proofs.Totals.{row_not_back}
-use Rattle.md_sort.proofs.Placed.{AreApart, placed_ordered, placed_permuted, set_permuted, differ_filter, differ_permuted, ordered_filter}
+use Rattle.md_sort.proofs.Placed.{AreApart, placed_ordered, placed_permuted, set_permuted, differ_filter, differ_permuted, ordered_filter, by_path}
 
 pub row_refl : (r : Row) → same_row r r ≡ true
 row_refl r = rw (same_refl r.path, attrs_refl r.attrs) refl
@@ -118,6 +118,48 @@ table_differ (r ∷ rows) h = (apart rows h.0, table_differ rows h.1)
     apart : (others : List Row) → StandAfter r.path others → AreApart r.path others
     apart [] k = tt
     apart (w ∷ others) k = (before_not_same r.path w.path k.0, apart others k.1)
+
+-- the rows of a table are in order by no key
+pub table_ordered : (rows : List Row) → IsTable rows → IsOrdered [] rows
+table_ordered [] h = tt
+table_ordered (r ∷ rows) h = (later rows h.0, table_ordered rows h.1)
+  where
+    later : (others : List Row) → StandAfter r.path others → AllByRecursion (λ (w : Row). row_before [] r w ≡ true) others
+    later [] k = tt
+    later (w ∷ others) k = (by_path r w ∙ k.0, later others k.1)
+
+-- rows in order by no key are a table
+pub ordered_table : (rows : List Row) → IsOrdered [] rows → IsTable rows
+ordered_table [] h = tt
+ordered_table (r ∷ rows) h = (later rows h.0, ordered_table rows h.1)
+  where
+    later : (others : List Row) → AllByRecursion (λ (w : Row). row_before [] r w ≡ true) others → StandAfter r.path others
+    later [] k = tt
+    later (w ∷ others) k = (sym (by_path r w) ∙ k.0, later others k.1)
+
+-- rows with distinct paths, put in path order, are a table
+pub in_path_order : (rows : List Row) → PathsDiffer rows → IsTable (in_order [] rows)
+in_path_order rows differ = ordered_table (in_order [] rows) (is_there [] rows differ).ascends
+
+-- a table that was put in another order is had back
+pub table_again : (order : List SortKey) (table : List Row) → IsTable table → in_order [] (in_order order table) ≡ table
+table_again order table h =
+    let there = is_there order table (table_differ table h) in
+    let differ = differ_permuted _ _ there.same_rows (table_differ table h) in
+    is_alone [] (in_order order table) _ table (is_there [] (in_order order table) differ)
+    record { same_rows = IsPermutation-sym _ _ there.same_rows; ascends = table_ordered table h }
+
+-- rows that show a table in order are kept, and are the one list that does
+pub shown_kept : (order : List SortKey) (table rows : List Row) → IsTable table → IsInOrder order table rows → AreKept order rows × (rows ≡ in_order order table)
+shown_kept order table rows h shown = (
+  record { distinct = differ_permuted table rows shown.same_rows (table_differ table h); ordered = shown.ascends },
+  is_alone order table rows (in_order order table) shown (is_there order table (table_differ table h)),
+)
+
+-- kept rows show their table
+pub kept_shown : (order : List SortKey) (rows : List Row) → AreKept order rows → IsInOrder order (in_order [] rows) rows
+kept_shown order rows kept =
+    record { same_rows = IsPermutation-sym _ _ (is_there [] rows kept.distinct).same_rows; ascends = kept.ordered }
 
 module _ (order : List SortKey) (table rows : List Row) (h : IsTable table) (shown : IsInOrder order table rows) where
   -- A table's row is set in rows that have the table in order.

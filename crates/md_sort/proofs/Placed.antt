@@ -232,7 +232,7 @@ none_left p [] = refl
 none_left p (r ∷ rows) = by_test (is_same r.path p) (λ e. rw e (none_left p rows)) (λ e. rw (e, e) (none_left p rows))
 
 -- rows in order by no key have ascending paths
-by_path : (p q : Row) → row_before [] p q ≡ is_before p.path q.path
+pub by_path : (p q : Row) → row_before [] p q ≡ is_before p.path q.path
 unfolding row_before is_before
 by_path p q = refl
 

@@ -3,7 +3,7 @@ ghost use Rattle.std.specs.Prelude.{◌≡◌, ◌+◌, ◌≤◌, ◌<◌, ◌=
 ghost use Rattle.std.specs.Option.{option_copied};
 ghost use Rattle.md_world.specs.Tables.{has_path, with_row, without_path, has_at};
 ghost use Rattle.md_world.specs.Orders.{IsInOrder};
-ghost use Rattle.md_sort.specs.Kept.{HasRoom};
+ghost use Rattle.md_sort.specs.Kept.{AreKept, HasRoom};
 
 use crate::index;
 use crate::paged::SlotList;
@@ -13,8 +13,8 @@ use slab::Slab;
 use std::alloc::{AllocError, Global};
 use std::marker::Model;
 
-/// Rows with distinct paths in an order. Contracts see the order, the list of the rows, and for how many more there is
-/// room.
+/// Rows with distinct paths in an order, each before each later one. Contracts see the order, the list of the rows, and for
+/// how many more there is room.
 #[derive(Drop)]
 pub struct Sorted {
     order: Order,
@@ -50,7 +50,7 @@ impl Sorted {
         }
     }
 
-    /// Makes room for this many more rows.
+    /// Makes room for this many more rows. Fails only where memory runs out; the rows stay.
     pub fn reserve(&mut self, more: usize) -> Result<(), AllocError>
         ensures rows { self.new.rows ≡ self.old.rows }
         ensures order { self.new.order ≡ self.old.order }
@@ -94,14 +94,14 @@ impl Sorted {
         )
     }
 
-    /// The row at a place, counted from 0.
+    /// The row at a place, counted from 0. `None` comes exactly where the place is not below `len`.
     pub fn at(&self, place: usize) -> Option<&Row>
         ensures { option_copied result ≡ slice_get self.now.rows place }
     {
         index::row_at(&self.rows, &self.places, place)
     }
 
-    /// Where the row of a path stands, counted from 0.
+    /// Where the row of a path stands, counted from 0. `None` comes exactly where no row has the path.
     pub fn place_of(&self, path: &Path) -> Option<usize>
         ensures { MatchOption result (has_path self.now.rows path.now ≡ false) (λ place. has_at self.now.rows place path.now ≡ true) }
     {
@@ -114,9 +114,10 @@ impl Sorted {
         )
     }
 
-    /// How many rows there are.
+    /// How many rows there are. They have distinct paths, and each stands before each later one.
     pub fn len(&self) -> usize
-        ensures { result ≡ length self.now.rows }
+        ensures value { result ≡ length self.now.rows }
+        ensures kept { AreKept self.now.order self.now.rows }
     {
         self.places.len()
     }
@@ -135,7 +136,7 @@ impl Sorted {
         &self.order
     }
 
-    /// Puts the rows in another order.
+    /// Puts the rows in another order. Fails only where memory runs out, and then changes nothing.
     pub fn set_order(&mut self, order: Order) -> Result<(), AllocError>
         ensures rows { OnOk result (IsInOrder order self.old.rows self.new.rows) }
         ensures order { OnOk result (self.new.order ≡ order) }

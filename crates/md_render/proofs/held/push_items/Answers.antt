@@ -20,5 +20,5 @@ loop-place-preserved c =
       | in_default w ↦
           let none : slice_get rows place ≡ None = sym c.at.ensures ∙ ap option_copied w.in_default.is in
           let past : length rows ≤ place = none_past rows place none in
-          absurd (let test = c.loop-place-test.true in let len = c.len-place-end.ensures in omega arith)
+          absurd (let test = c.loop-place-test.true in let len = c.len-place-end.ensures.value in omega arith)
     ]

@@ -7,10 +7,7 @@ use Rattle.md_live.proofs.session.Session.follower.Goals as goal
 pub returns : goal.returns
 returns c =
     let held = c.in-Some.held in
-    let begun = c.new-follower.ensures in
-    let took = c.in_ok-take_part.ensures in
-    let is : c.take_part.new.self ≡ followed held =
-    follows_so held c.new-follower.result c.take_part.new.self begun.order begun.rows begun.version took.rows took.order took.version in
+    let is : c.take_part.new.self ≡ followed held = follows_so held c.new-follower.result c.take_part.new.self c.new-follower.ensures c.in_ok-take_part.ensures.ok in
     ap Some is
     ∙ ap (option_map followed) (sym c.in-Some.is ∙ c.in_ok-held.ensures.given)
     ∙ ap (λ (t : Telling). followed_in t.state c.args.client c.args.number) c.self.view_is
