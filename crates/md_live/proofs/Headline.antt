@@ -2,7 +2,7 @@
 use Rattle.std.proofs.Common.{◌≡◌, ℕ, ◌+◌, List, [], ◌∷◌, ◌++◌, length, filter, refl, sym, ◌∙◌, ap, arith, append_assoc, append-nil, length-append}
 use Rattle.md_world.specs.Orders.{in_order}
 use Rattle.md_world.specs.declared.Row.{Row}
-use Rattle.md_world.specs.declared.TheConstants.Limits.{STANDARD}
+use Rattle.md_world.specs.Limits.{standard}
 use Rattle.md_machine.specs.Laws.{IsLive}
 use Rattle.md_machine.specs.States.{Query, State, opening}
 use Rattle.md_machine.specs.Runs.{Entry, run_from, entries}
@@ -86,26 +86,26 @@ goes_on done action =
     let s = state_of done in
     let more = events_of s action in
     let events : run_events (done ++ action ∷ []) ≡ run_events done ++ more =
-    events_join (opening STANDARD) done (action ∷ []) ∙ ap (λ (es : List Event). run_events done ++ es) (append-nil more) in
+    events_join (opening standard) done (action ∷ []) ∙ ap (λ (es : List Event). run_events done ++ es) (append-nil more) in
     record {
-      next_entries = ap (entries STANDARD) events ∙ entries-join (opening STANDARD) (run_events done) more;
-      next_text = text_join [] (opening STANDARD) done (action ∷ []) ∙ ap (λ (text : List ℕ). run_text done ++ text) (append-nil (action_text (entries_of done) s action));
+      next_entries = ap (entries standard) events ∙ entries-join (opening standard) (run_events done) more;
+      next_text = text_join [] (opening standard) done (action ∷ []) ∙ ap (λ (text : List ℕ). run_text done ++ text) (append-nil (action_text (entries_of done) s action));
     }
 
-is_shown : (done : List Action) (q : Query) → IsLive STANDARD (run_events done) q → IsShown done q
+is_shown : (done : List Action) (q : Query) → IsLive standard (run_events done) q → IsShown done q
 is_shown done q live =
     let shows = held_text q.client q.number q.base in
     let found = ap (shown_text (entries_of done) q.client q.number) live in
-    let answer = ap (λ (rows : List Row). shows (in_order q.spec.order rows)) (held_is_answer STANDARD (run_events done) q live) in
+    let answer = ap (λ (rows : List Row). shows (in_order q.spec.order rows)) (held_is_answer standard (run_events done) q live) in
     (goes_on done (show q.client q.number)).next_text ∙ ap (λ (text : List ℕ). run_text done ++ text) (found ∙ answer)
 
-holds_answer : (events : List Event) (q : Query) → IsLive STANDARD events q → HoldsAnswer events q
+holds_answer : (events : List Event) (q : Query) → IsLive standard events q → HoldsAnswer events q
 holds_answer events q live =
     record {
-      base = base_is_named STANDARD events q live;
-      held = held_is_answer STANDARD events q live;
-      numbers = numbers_go_on STANDARD events q live;
-      notices = notices_are_exact STANDARD events q live;
+      base = base_is_named standard events q live;
+      held = held_is_answer standard events q live;
+      numbers = numbers_go_on standard events q live;
+      notices = notices_are_exact standard events q live;
     }
 
 -- what is printed of all that is done is the text of one run
@@ -113,7 +113,7 @@ pub one_run : (actions : List Action) (text : List ℕ) → text ≡ run_text ac
 one_run actions text is =
     record {
       whole = is;
-      journal = λ done rest split. told_text [] (opening STANDARD) done;
+      journal = λ done rest split. told_text [] (opening standard) done;
       goes_on = λ done rest action split. goes_on done action;
       shown = λ done rest q split live. is_shown done q live;
       follows = λ before rest q split live. holds_answer before q live;

@@ -2,7 +2,7 @@
 -- answer.
 use Rattle.std.specs.Prelude.{◌≡◌, ℕ, ℤ, Bool, true, false, List, [], ◌∷◌, ◌++◌, Option, filter}
 use Rattle.md_world.specs.Orders.{in_order}
-use Rattle.md_world.specs.declared.TheConstants.Limits.{STANDARD}
+use Rattle.md_world.specs.Limits.{standard}
 use Rattle.md_source.specs.Tree.{Content}
 use Rattle.md_machine.specs.Answers.{shown_answer}
 use Rattle.md_machine.specs.Laws.{IsLive, BaseIsNamed, HeldIsAnswer, NumbersGoOn, NoticesAreExact, hits_given}
@@ -20,11 +20,11 @@ use Rattle.md_live.specs.Reports.{Runs}
 
 -- the events of what was done so far, each beside its reply in one run
 abbrev pub entries_of : List Action → List Entry
-entries_of done = entries STANDARD (run_events done)
+entries_of done = entries standard (run_events done)
 
 -- the state that they lead to
 abbrev pub state_of : List Action → State
-state_of done = (run STANDARD (run_events done)).last
+state_of done = (run standard (run_events done)).last
 
 -- whether the server is told of it: of all but the showing of what a client holds
 abbrev pub is_told : Action → Bool
@@ -34,13 +34,13 @@ is_told _ = true
 -- After these events the client of a live query holds an answer.
 pub record HoldsAnswer (events : List Event) (q : Query) : Type 0 where
   -- The query's base is the version that was named to the client last, and is a committed one.
-  pub base : BaseIsNamed STANDARD events q
+  pub base : BaseIsNamed standard events q
   -- What the client holds is the hits given so far of the expression's answer on the base, from scratch; once finished, all.
-  pub held : HeldIsAnswer STANDARD events q
+  pub held : HeldIsAnswer standard events q
   -- No version that was named is earlier than one before it.
-  pub numbers : NumbersGoOn STANDARD events q
+  pub numbers : NumbersGoOn standard events q
   -- Each notice lists exactly what differs between its two versions.
-  pub notices : NoticesAreExact STANDARD events q
+  pub notices : NoticesAreExact standard events q
 
 -- What is done next goes on with the run and with the text.
 pub record GoesOn (done : List Action) (action : Action) : Type 0 where
@@ -62,9 +62,9 @@ pub record IsOneRun (actions : List Action) (text : List ℕ) : Type 0 where
   -- What is done next goes on with the run and with the text.
   pub goes_on : (done rest : List Action) (action : Action) → actions ≡ done ++ action ∷ rest → GoesOn done action
   -- What is shown of a live query is its answer.
-  pub shown : (done rest : List Action) (q : Query) → actions ≡ done ++ show q.client q.number ∷ rest → IsLive STANDARD (run_events done) q → IsShown done q
+  pub shown : (done rest : List Action) (q : Query) → actions ≡ done ++ show q.client q.number ∷ rest → IsLive standard (run_events done) q → IsShown done q
   -- After each front of the events the client of each live query holds an answer.
-  pub follows : (before rest : List Event) (q : Query) → run_events actions ≡ before ++ rest → IsLive STANDARD before q → HoldsAnswer before q
+  pub follows : (before rest : List Event) (q : Query) → run_events actions ≡ before ++ rest → IsLive standard before q → HoldsAnswer before q
 
 -- The headline: the report is of a run of these lines, and its text for out is that of one run of the machine.
 pub record Headline (told : Option Content) (before after : ℕ) (now offset : ℤ) (lines : List Line) (report : Report) : Type 0 where
