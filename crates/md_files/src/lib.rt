@@ -1,5 +1,11 @@
 //! What the tools on files ask a tree for and print: the attributes of files, the counts of imports, and the lists of
 //! the importers and of the attributes.
+//!
+//! The main type is [`Report`]: the texts for out and err, and how the askings ended, in which a failed asking counts more
+//! than an absent path. [`show`] makes it of files and [`import`] of files and folders, which they ask a tree for in turn;
+//! [`ask_file`] asks for one file and imports it. Their contracts say which answers of the tree a report is of, when each
+//! end comes, and that all is printed where all is told and no call failed. No more askings failed than the tree's count of
+//! faults rose by, as `laws` says.
 #![tactic(auto)]
 
 mod asking;

@@ -21,7 +21,10 @@ use Rattle.md_live.specs.Moments.{moment_of}
 use Rattle.md_live.specs.Given.{imported_path, IsGivenBy, AreGiven, tells_imports}
 use Rattle.md_live.specs.Actions.{Action, action_at, action_of, actions_of}
 use Rattle.md_live.specs.Actions.Action.{job, removal, query, show}
+use Rattle.md_live.specs.Headline.{Headline}
 use Rattle.md_live.specs.Reports.{Runs, finding_of, report_of_actions}
+use Rattle.md_live.proofs.Counting.{are_given_counted}
+use Rattle.md_live.proofs.Headline.{one_run}
 
 -- the count of faults rose where something failed, and stands otherwise
 abbrev Stands : Bool → ℕ → ℕ → Type 0
@@ -149,7 +152,10 @@ module _ (now offset : ℤ) where
 module _ (before after : ℕ) (now offset : ℤ) (lines : List Line) (report : Report) where
   pub runs_so : (told : Option Content) (givens : List (Option Asked)) → AreGiven offset told before after lines givens
       → report ≡ report_of_actions (actions_of now offset lines givens) → Runs told before after now offset lines report
-  runs_so told givens gives is = record { givens = givens; given = gives; is = is }
+  runs_so told givens gives is = record { givens = givens; given = gives; counted = are_given_counted offset told before after lines givens gives; is = is }
+
+  pub headline_so : (told : Option Content) → Runs told before after now offset lines report → Headline told before after now offset lines report
+  headline_so told runs = record { runs = runs; text = one_run (actions_of now offset lines runs.givens) report.out (ap (λ (r : Report). r.out) runs.is) }
 
   pub runs_cause : (told : Option Content) → Runs told before after now offset lines report → EndHasCause before after report.end
   runs_cause told runs =

@@ -1,11 +1,12 @@
 -- What the tree gives to the `import` lines of a script.
-use Rattle.std.specs.Prelude.{◌≡◌, ℕ, ℤ, Bool, List, Option, None, Some}
+use Rattle.std.specs.Prelude.{◌≡◌, ℕ, ℤ, Bool, true, false, List, count_by, Option, None, Some}
 use Rattle.std.specs.List.{filter_map}
 use Rattle.md_value.specs.Values.{PathBytes}
 use Rattle.md_source.specs.Tree.{Content}
 use Rattle.md_files.specs.Answers.{IsAsked, Gives, InTurn}
 use Rattle.md_files.specs.Reports.{tells_files}
 use Rattle.md_files.specs.declared.asking.Asked.{Asked}
+use Rattle.md_files.specs.declared.asking.Asked.TheVariants as asked
 use Rattle.md_script.specs.declared.script.What.{What}
 use Rattle.md_script.specs.declared.script.What.TheVariants as what
 use Rattle.md_script.specs.declared.script.Line.{Line}
@@ -17,7 +18,7 @@ imported_path _ = None
 
 -- a file is asked for where a path is imported, and nothing otherwise
 abbrev pub IsGivenBy : ℤ → Option Content → ℕ → ℕ → Option PathBytes → Option Asked → Type 0
-IsGivenBy offset told before now (Some path) (Some asked) = Gives (IsAsked told before now path) offset asked
+IsGivenBy offset told before now (Some path) (Some given) = Gives (IsAsked told before now path) offset given
 IsGivenBy offset told before now None None = now ≡ before
 IsGivenBy offset told before now _ _ = ⊥
 
@@ -28,6 +29,15 @@ IsGiven offset told before now line given = IsGivenBy offset told before now (im
 -- what is given to the lines, in turn
 abbrev pub AreGiven : ℤ → Option Content → ℕ → ℕ → List Line → List (Option Asked) → Type 0
 AreGiven offset told before now lines givens = InTurn (IsGiven offset told) before now lines givens
+
+-- whether an asking failed
+abbrev pub has_failed : Option Asked → Bool
+has_failed (Some asked.Failed) = true
+has_failed _ = false
+
+-- how many of the askings failed
+abbrev pub failures : List (Option Asked) → ℕ
+failures givens = count_by has_failed givens
 
 -- whether all files that lines import are in a tree's content
 abbrev pub tells_imports : Content → List Line → Bool

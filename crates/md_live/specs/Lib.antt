@@ -8,3 +8,4 @@ pub mod Reports
 pub mod Tallies
 pub mod Sums
 pub mod Telling
+pub mod Headline

@@ -2,12 +2,13 @@
 use Rattle.std.specs.Prelude.{◌≡◌, ℕ, ℤ, List, Option, None, Some}
 use Rattle.std.specs.List.{filter_map}
 use Rattle.md_source.specs.Tree.{Content}
+use Rattle.md_files.specs.Answers.{IsCounted}
 use Rattle.md_files.specs.Findings.{Finding}
 use Rattle.md_files.specs.Findings.Finding.{named}
 use Rattle.md_files.specs.Reports.{Report, report_of}
 use Rattle.md_files.specs.declared.asking.Asked.{Asked}
 use Rattle.md_script.specs.declared.script.Line.{Line}
-use Rattle.md_live.specs.Given.{AreGiven}
+use Rattle.md_live.specs.Given.{AreGiven, failures}
 use Rattle.md_live.specs.Actions.{Action, actions_of}
 use Rattle.md_live.specs.Actions.Action.{job}
 use Rattle.md_live.specs.Texts.{run_text}
@@ -21,8 +22,10 @@ finding_of _ = None
 abbrev pub report_of_actions : List Action → Report
 report_of_actions actions = report_of (run_text actions) (filter_map finding_of actions)
 
--- the report is what a run of these lines prints, which began now at an offset, with what the tree gives to each line
+-- the report is what a run of these lines prints, which began now at an offset, with what the tree gives to each line; as
+-- many askings as failed, the count of faults rose by no less
 pub record Runs (told : Option Content) (before after : ℕ) (now offset : ℤ) (lines : List Line) (report : Report) : Type 0 where
   pub givens : List (Option Asked)
   pub given : AreGiven offset told before after lines givens
+  pub counted : IsCounted before after (failures givens)
   pub is : report ≡ report_of_actions (actions_of now offset lines givens)

@@ -3,7 +3,7 @@ use Rattle.std.specs.Prelude.{◌≡◌, ℕ, ℤ, List, length, map, Option, No
 use Rattle.md_world.specs.Limits.{standard}
 use Rattle.md_source.specs.Tree.{Content}
 use Rattle.md_machine.specs.declared.Event.{Event}
-use Rattle.md_machine.specs.States.{Query, State, query_at}
+use Rattle.md_machine.specs.States.{Query, query_at}
 use Rattle.md_machine.specs.Runs.{Entry, run, entries, told, held}
 use Rattle.md_files.specs.declared.asking.Asked.{Asked}
 use Rattle.md_script.specs.declared.script.Line.{Line}

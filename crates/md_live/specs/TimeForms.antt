@@ -1,7 +1,9 @@
 -- The forms of time of a script whose moments are out of range.
-use Rattle.std.specs.Prelude.{ℕ, ℤ, List, [], ◌∷◌, Option, None, Some}
+use Rattle.std.specs.Prelude.{◌≡◌, ℕ, ℤ, List, [], ◌∷◌, length, Option, None, Some}
+use Rattle.std.specs.List.{AllByRecursion}
 use Rattle.std.specs.Option.{option_map}
-use Rattle.md_match.specs.Forms.{first_out_of_range, capped}
+use Rattle.md_value.specs.Values.{IsMoment}
+use Rattle.md_match.specs.Forms.{forms, first_out_of_range, capped}
 use Rattle.md_script.specs.declared.script.What.{What}
 use Rattle.md_script.specs.declared.script.What.TheVariants as what
 use Rattle.md_script.specs.declared.script.Line.{Line}
@@ -22,3 +24,16 @@ abbrev pub out_of_range : ℤ → ℤ → List Line → Option (ℕ × ℕ)
 out_of_range now offset [] = None
 out_of_range now offset (line ∷ lines) =
     first_of (option_map (λ form. (line.number, form)) (form_out (moment_of now line.at_ms) offset line.what)) (out_of_range now offset lines)
+
+-- how many forms of time a line has
+abbrev pub forms_in : What → ℕ
+forms_in (what.Query client number expr scope order batch) = length (forms expr)
+forms_in _ = 0
+
+-- no line has a form of time
+abbrev pub HasNoForm : List Line → Type 0
+HasNoForm lines = AllByRecursion (λ line. forms_in line.what ≡ 0) lines
+
+-- each form of time of the lines is in range, whenever a run of them begins
+abbrev pub AreAlwaysInRange : ℤ → List Line → Type 0
+AreAlwaysInRange offset lines = (now : ℤ) → IsMoment now → out_of_range now offset lines ≡ None

@@ -7,6 +7,7 @@ ghost use Rattle.md_files.specs.Reports.{EndHasCause};
 ghost use Rattle.md_live.specs.Given.{tells_imports};
 ghost use Rattle.md_live.specs.Actions.{actions_of};
 ghost use Rattle.md_live.specs.Reports.{Runs, report_of_actions};
+ghost use Rattle.md_live.specs.Headline.{Headline};
 ghost use Rattle.md_live.specs.Telling.{after_actions, untold};
 
 use crate::given::give_all;
@@ -64,6 +65,8 @@ pub fn run<T: Tree>(
     requires few { length lines.now ≤ most_lines }
     requires moment { IsMoment now }
     ensures runs { IfOk result (λ report. Runs (T.content tree.old) (T.faults tree.old) (T.faults tree.new) now offset lines.now report) }
+    // Over the run's events, what each client holds is its answer on one committed version, and the text is that run's.
+    ensures headline { IfOk result (λ report. Headline (T.content tree.old) (T.faults tree.old) (T.faults tree.new) now offset lines.now report) }
     ensures cause { IfOk result (λ report. EndHasCause (T.faults tree.old) (T.faults tree.new) report.end) }
     ensures later { T.faults tree.old ≤ T.faults tree.new }
     ensures content { T.content tree.new ≡ T.content tree.old }
