@@ -6,7 +6,7 @@ use Rattle.std.specs.Str.Lines.{lines, lines_of_parts, strip_carriage_return}
 use Rattle.std.proofs.lemmas.List.Elements.{All-nil, All-cons, All-head, All-tail, All-append}
 use Rattle.std.proofs.lemmas.List.Splits.{slice_split_at, length-slice_split}
 use Rattle.md_script.specs.declared.script.Line.{Line}
-use Rattle.md_script.specs.declared.read.TheConstants.{MOST_LINES}
+use Rattle.md_script.specs.Limits.{most_lines}
 use Rattle.md_script.specs.Scripts.{is_bad_line, statements}
 use Rattle.md_script.proofs.Outcomes.{timed, timed_all}
 use Rattle.md_script.proofs.Verdicts.{accepted_lem}
@@ -106,7 +106,7 @@ all_timely n (l ∷ ls) told =
     let first = All-head IsTold l ls told in
     rw (first.says) (All-cons IsInTime (record { number = n; at_ms = 0; what = first.what }) (timed (n + 1) 0 ls) first.timely (all_timely (n + 1) ls (All-tail IsTold l ls told)))
 
-pub told_read : (text : List ℕ) (most : ℕ) → most ≤ MOST_LINES → AreTold text most → IsRead text
+pub told_read : (text : List ℕ) (most : ℕ) → most ≤ most_lines → AreTold text most → IsRead text
 told_read text most few told =
     let whole : lines text ≡ told.each = ap lines (sym (append-nil text)) ∙ told.split [] ∙ append-nil told.each in
     let said : statements text ≡ timed 1 0 told.each = sym (timed_all text) ∙ ap (timed 1 0) whole in

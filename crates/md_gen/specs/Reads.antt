@@ -6,6 +6,7 @@ use Rattle.md_script.specs.declared.script.What.{What}
 use Rattle.md_script.specs.declared.script.What.TheVariants as what
 use Rattle.md_script.specs.declared.script.Line.{Line}
 use Rattle.md_script.specs.Scripts.{verdict}
+use Rattle.md_gen.specs.Files.{most_made}
 use Rattle.md_gen.specs.Scripts.{script}
 
 -- the forms of time of a query's expression are in range, told from the moment 0 in UTC
@@ -22,4 +23,4 @@ pub record IsRead (text : List ℕ) : Type 0 where
 
 -- the script that is made from any start over 1 to 10,000 files is read
 abbrev pub EachIsRead : Type 0
-EachIsRead = (start n : ℕ) → 1 ≤ n → n ≤ 10000 → IsRead (script start n)
+EachIsRead = (start n : ℕ) → 1 ≤ n → n ≤ most_made → IsRead (script start n)
