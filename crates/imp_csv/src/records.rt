@@ -1,10 +1,11 @@
 // The records of a text.
-ghost use Rattle.std.specs.Prelude.{◌≡◌, IfOk};
+ghost use Rattle.std.specs.Prelude.{◌≡◌, IfOk, true};
+ghost use Rattle.csv.specs.Reading.{error_kind, stops_reader};
 ghost use Rattle.csv.specs.Records.{fields_of, AllText};
 ghost use Rattle.imp_csv.specs.Tables.{records_of};
 
 use crate::fields::Fields;
-use csv::{ByteRecord, ReaderBuilder};
+use csv::{ByteRecord, Error, ErrorKind, ReaderBuilder};
 use md_value::Memory;
 use std::alloc::Global;
 
@@ -22,8 +23,18 @@ fn fields_of(alloc: Global, row: &ByteRecord) -> Result<Fields, Memory>
     Ok(fields)
 }
 
-/// The records of a text, with no header, of any lengths and untrimmed. A reader of bytes in memory fails only where
-/// memory does.
+// What an error comes to that stops a reader. Bytes in memory never fail to be read, but what reads the records says
+// nothing of when such an error comes: it is answered as want of memory.
+fn memory_of(error: Error) -> Memory
+    requires { stops_reader (error_kind error) ≡ true }
+{
+    match error.into_kind() {
+        ErrorKind::Io(_) | ErrorKind::OutOfMemory => Memory,
+        _ => unreachable!(),
+    }
+}
+
+/// The records of a text, with no header, of any lengths and untrimmed. No text is refused.
 pub(crate) fn records(alloc: Global, text: &str) -> Result<Vec<Fields>, Memory>
     ensures { IfOk result (λ records. records.items ≡ records_of text.now) }
 {
@@ -35,7 +46,7 @@ pub(crate) fn records(alloc: Global, text: &str) -> Result<Vec<Fields>, Memory>
     for row in reader.into_byte_records() {
         match row {
             Ok(row) => records.push(fields_of(alloc, &row)?)?,
-            Err(_) => return Err(Memory),
+            Err(error) => return Err(memory_of(error)),
         }
     }
     Ok(records)

@@ -1,4 +1,8 @@
-//! The importer of plain texts.
+//! The importer of plain texts, which give one attribute, the text content.
+//!
+//! [`fill`] makes an `Attrs` of a text that is UTF-8 (RFC 3629) and whose byte order mark was dropped: its only name is
+//! `kMDItemTextContent`, and its only value the whole text, every space and line feed of it. A text without a character is
+//! its content too. No text has a fault: the answer is that, or want of memory.
 #![tactic(auto)]
 
 ghost use Rattle.std.specs.Prelude.{◌≡◌};
@@ -18,4 +22,3 @@ pub fn fill(alloc: Global, text: &str) -> Result<Attrs, FillFault>
     put_content(alloc, &mut attrs, text)?;
     Ok(attrs)
 }
-

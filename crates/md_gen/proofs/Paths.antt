@@ -17,7 +17,7 @@ use Rattle.md_gen.specs.declared.kind.Kind.TheVariants.{Text, Json, Csv}
 use Rattle.md_gen.specs.Files.{ending, path}
 
 -- a test that no digit passes
-abbrev NoDigit : (ℕ → Bool) → Type 0
+abbrev pub NoDigit : (ℕ → Bool) → Type 0
 NoDigit p = (c : ℕ) → 48 ≤ c → c ≤ 57 → p c ≡ false
 
 no_slash : NoDigit is_slash
@@ -53,7 +53,7 @@ none-All p (x ∷ xs) none = elim (p x) as (λ t. p x ≡ t → t || list_any p 
 abbrev numbered : ℕ → Kind → List ℕ
 numbered i kind = decimal i ++ ending kind
 
-ending_none : (p : ℕ → Bool) → ((kind : Kind) → list_any p (ending kind) ≡ false) → NoDigit p → (i : ℕ) (kind : Kind) → i < 2 ^ 64 → list_any p (numbered i kind) ≡ false
+pub ending_none : (p : ℕ → Bool) → ((kind : Kind) → list_any p (ending kind) ≡ false) → NoDigit p → (i : ℕ) (kind : Kind) → i < 2 ^ 64 → list_any p (numbered i kind) ≡ false
 ending_none p none digit i kind small =
     list_any-append p (decimal i) (ending kind) ∙ ap (λ b. b || list_any p (ending kind)) (decimal_none p digit i small) ∙ none kind
 
@@ -67,7 +67,7 @@ ending_zero Text = refl
 ending_zero Json = refl
 ending_zero Csv = refl
 
-ending_length : (kind : Kind) → length (ending kind) ≤ 5
+pub ending_length : (kind : Kind) → length (ending kind) ≤ 5
 ending_length Text = omega arith
 ending_length Json = omega arith
 ending_length Csv = omega arith

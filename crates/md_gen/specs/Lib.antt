@@ -1,3 +1,4 @@
 pub mod Draws
 pub mod Files
 pub mod Scripts
+pub mod Reads

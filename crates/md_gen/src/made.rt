@@ -1,8 +1,9 @@
 // Files and a script, made from a number.
 ghost use Rattle.std.specs.Prelude.{◌≡◌, ◌≤◌, ◌∷◌, [], IfOk, codes, string_bytes};
 ghost use Rattle.md_source.specs.Tree.{IsContent};
-ghost use Rattle.md_gen.specs.Files.{files, most_made};
+ghost use Rattle.md_gen.specs.Files.{files};
 ghost use Rattle.md_gen.specs.Scripts.{script};
+ghost use Rattle.md_words.specs.Grammar.{most_made};
 
 use crate::draws::Draws;
 use crate::files::files;
@@ -10,9 +11,6 @@ use crate::script::script;
 use md_source::Entry;
 use md_value::Items;
 use std::alloc::{AllocError, Global};
-
-/// The most files that are made.
-pub const MOST_FILES: u32 = 10_000;
 
 /// Files and a script over them.
 #[derive(Debug, Drop)]
@@ -23,7 +21,7 @@ pub struct Made {
     pub script: String,
 }
 
-/// Makes so many files, from 1 to [`MOST_FILES`], and a script over them, whose words and clients are drawn from a
+/// Makes so many files, from 1 to 10,000, and a script over them, whose words and clients are drawn from a
 /// sequence that begins at the start. The files have distinct paths in the folder `g`. Fails only where memory runs out.
 #[tactic(auto, unfolding(crate::specs::Files::files, crate::specs::Scripts::script))]
 pub fn make(alloc: Global, start: u64, n: u32) -> Result<Made, AllocError>

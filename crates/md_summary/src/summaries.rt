@@ -1,6 +1,6 @@
 // The summary of a generated run.
 ghost use Rattle.std.specs.Prelude.{◌≡◌, ◌≤◌, ◌∷◌, [], IfOk, Ok, codes, length, string_bytes};
-ghost use Rattle.md_gen.specs.Files.{most_made};
+ghost use Rattle.md_words.specs.Grammar.{most_made};
 ghost use Rattle.md_script.specs.Limits.{most_lines};
 ghost use Rattle.md_script.specs.Scripts.{verdict};
 ghost use Rattle.md_summary.specs.Summary.{Summarizes};

@@ -1,7 +1,6 @@
 -- What the words of the program say.
 use Rattle.std.specs.Prelude.{ℕ, nat_lt, nat_le, ◌&&◌, Bool, true, false, if◌then◌else◌, List, [], ◌∷◌, codes, bytes_eq, Option, Some, None, is_none, unwrap_or, ℤ, pos}
 use Rattle.std.specs.Option.{option_map, option_and_then}
-use Rattle.md_gen.specs.Files.{most_made}
 use Rattle.md_words.specs.declared.command.Command.{Command}
 use Rattle.md_words.specs.declared.command.Tool.{Tool}
 use Rattle.md_words.specs.declared.command.Tool.TheVariants as tool
@@ -13,6 +12,10 @@ use Rattle.md_words.specs.Numbers.{number_in}
 use Rattle.md_words.specs.Offsets.{offset_of}
 use Rattle.md_words.specs.Options.{options_of}
 use Rattle.md_words.specs.Find.{find_options_of}
+
+-- the most files that `gen` makes
+abbrev pub most_made : ℕ
+most_made = 10_000
 
 -- whether the words can ask for a tool: `gen` makes at least one file
 abbrev pub is_offered : Tool → Bool

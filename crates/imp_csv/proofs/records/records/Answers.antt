@@ -24,6 +24,7 @@ loop-row-init c =
       strip_bom c.args.text.now,
       rw c.as_bytes.ensures.value at fr.source,
       (sym fr.state, refl),
+      rw e at fr.flexible,
     )
 
 pub fields_of-requires : goal.fields_of-requires
@@ -38,9 +39,10 @@ loop-row-preserved c =
     let inv = c.loop-row.invariant in
     let s = rw (c.in-Some.is, c.in-Ok.is) at ((c.next.ensures.steps inv.2 inv.0).0 inv.1) in
     let m = rows-more (λ (s : Bor (List ℕ)). Some s.now) c.loop-row.row-iterator.rdr c.next.new.self.rdr (fields_of c.in-Ok.row) default_config st.StartRecord (strip_bom c.args.text.now) inv.4 c.loop-row.records.items inv.3 inv.5 inv.6 s.0 in
+    let flexible = rw (c.in-Some.is, c.in-Ok.is) at ((c.next.ensures.steps inv.2 inv.0).3) in
     let items = c.in_ok-push-in-Ok.ensures.items in
     let fields = c.in_ok-fields_of-in-Ok.ensures in
-    (s.0.3 ∙ inv.0, inl s.1, s.2, s.0.2 ∙ inv.3, m.0, m.1, rw (items, fields) m.2)
+    (s.0.3 ∙ inv.0, inl s.1, s.2, s.0.2 ∙ inv.3, m.0, m.1, rw (items, fields) m.2, flexible ∙ inv.7)
 
 pub returns : goal.returns
 unfolding records_of
