@@ -10,4 +10,3 @@ mod script;
 mod words;
 
 pub use made::{MOST_FILES, Made, make};
-
