@@ -1,70 +1,91 @@
--- The rows of files, and what became of them.
-use Rattle.std.proofs.Common.{◌≡◌, ℤ, true, List, [], ◌∷◌, ◌++◌, suc, map, refl, sym, ◌∙◌, ap, subst, All, AllPairs, append_assoc, append-nil, Option, Some, None, Result, Ok, IfOk, arith}
-use Rattle.std.specs.List.{cons_option, AllZip}
-use Rattle.std.proofs.lemmas.List.Elements.{filter_map-append, All-nil, All-cons, All-head, All-tail}
+-- What a search makes of files: the hits among their rows, and what became of those that give no attributes.
+use Rattle.std.proofs.Common.{◌≡◌, ℕ, Bool, true, false, ◌||◌, if◌then◌else◌, List, [], ◌∷◌, ◌++◌, map, filter, refl, ◌∙◌, ap, All, Result, Ok, IfOk}
+use Rattle.std.specs.List.{cons_option, filter_map, flat_map, list_any, AllZip}
 use Rattle.std.specs.declared.alloc.AllocError.{AllocError}
-use Rattle.md_value.specs.Values.{PathBytes, IsMoment, is_before}
+use Rattle.std.proofs.lemmas.List.Elements.{All-nil, All-cons, All-head, All-tail}
+use Rattle.md_value.specs.Values.{PathBytes, IsMoment}
 use Rattle.md_source.specs.declared.tree.Entry.{Entry}
 use Rattle.md_world.specs.declared.Row.{Row}
-use Rattle.md_world.specs.Tables.{StandAfter, IsTable, shown}
 use Rattle.md_world.specs.Differences.{paths_of}
-use Rattle.md_world.proofs.Tables.{with_rows_append, table_front}
-use Rattle.md_files.specs.Answers.{Answer, outcome}
-use Rattle.md_files.specs.Findings.{read_findings}
+use Rattle.md_match.specs.Conditions.{Condition, passes}
+use Rattle.md_files.specs.Answers.{outcome}
+use Rattle.md_files.specs.Findings.{Finding, read_findings, err_line, is_failed, is_absent}
 use Rattle.md_files.specs.Findings.Finding.{listed}
+use Rattle.md_files.specs.Additions.{worse}
+use Rattle.md_files.specs.Reports.{Report}
 use Rattle.md_files.specs.declared.asking.Asked.{Asked}
 use Rattle.md_files.specs.declared.asking.Asked.TheVariants as asked
+use Rattle.md_files.specs.declared.report.End.TheVariants as ended
 use Rattle.md_find.specs.declared.reading.ReadFile.{ReadFile}
-use Rattle.md_find.specs.declared.parsing.AskedFile.{AskedFile}
-use Rattle.md_find.specs.Files.{row_of, table_of, answer_of, answers_of, entries_of, asked_file, finding_of, rows_of}
-use Rattle.md_find.specs.Loading.{with_some}
+use Rattle.md_find.specs.declared.testing.Seen.TheVariants as seen
+use Rattle.md_find.specs.declared.testing.SeenFile.{SeenFile}
+use Rattle.md_find.specs.Files.{row_of, table_of, answer_of, answers_of, entries_of, seen_as, seen_file, hit_at, hit_of, reason_at, reason_of}
+use Rattle.md_find.specs.Notes.{noted_all}
 
--- with one row more, if there is one
-stands_more : (path own : PathBytes) (given : Asked) (rows : List Row) → is_before path own ≡ true → StandAfter path rows → StandAfter path (cons_option (row_of own given) rows)
-stands_more path own (asked.Attrs attrs) rows h k = (h, k)
-stands_more path own (asked.Fault fault) rows h k = k
-stands_more path own asked.Absent rows h k = k
-stands_more path own asked.Failed rows h k = k
+-- two lists of findings of which the same is printed
+record Alike (some others : List Finding) : Type 0 where
+  pub lines : flat_map err_line some ≡ flat_map err_line others
+  pub failed : list_any is_failed some ≡ list_any is_failed others
+  pub absent : list_any is_absent some ≡ list_any is_absent others
 
-table_more : (own : PathBytes) (given : Asked) (rows : List Row) → StandAfter own rows → IsTable rows → IsTable (cons_option (row_of own given) rows)
-table_more own (asked.Attrs attrs) rows h k = (h, k)
-table_more own (asked.Fault fault) rows h k = k
-table_more own asked.Absent rows h k = k
-table_more own asked.Failed rows h k = k
+alike_cons : (finding : Finding) (some others : List Finding) → Alike some others → Alike (finding ∷ some) (finding ∷ others)
+alike_cons finding some others alike =
+    record {
+      lines = ap (λ text. err_line finding ++ text) alike.lines;
+      failed = ap (λ is. is_failed finding || is) alike.failed;
+      absent = ap (λ is. is_absent finding || is) alike.absent;
+    }
 
-module _ (offset : ℤ) where
-  -- the table of files that were read
-  pub table_read : (files : List ReadFile) → table_of offset (entries_of files) (answers_of files) ≡ rows_of (map (asked_file offset) files)
-  table_read [] = refl
-  table_read (file ∷ files) = ap (cons_option (row_of file.entry.path (outcome offset (answer_of file)))) (table_read files)
+module _ (condition : Condition) where
+  alike_more : (path : PathBytes) (given : Asked) (some others : List Finding) → Alike some others
+      → Alike (cons_option (reason_at path (seen_as condition path given)) some) (listed path given ∷ others)
+  alike_more path (asked.Attrs attrs) some others alike = record { lines = alike.lines; failed = alike.failed; absent = alike.absent }
+  alike_more path (asked.Fault fault) some others alike = alike_cons (listed path (asked.Fault fault)) some others alike
+  alike_more path asked.Absent some others alike = alike_cons (listed path asked.Absent) some others alike
+  alike_more path asked.Failed some others alike = alike_cons (listed path asked.Failed) some others alike
 
-  -- what became of them
-  pub findings_read : (files : List ReadFile) → read_findings offset (entries_of files) (answers_of files) ≡ map finding_of (map (asked_file offset) files)
-  findings_read [] = refl
-  findings_read (file ∷ files) = ap (λ findings. listed file.entry.path (outcome offset (answer_of file)) ∷ findings) (findings_read files)
+  alike_seen : (files : List ReadFile) → Alike (filter_map reason_of (map (seen_file condition) files)) (read_findings condition.offset (entries_of files) (answers_of files))
+  alike_seen [] = record { lines = refl; failed = refl; absent = refl }
+  alike_seen (file ∷ files) = alike_more file.entry.path (outcome condition.offset (answer_of file)) _ _ (alike_seen files)
 
-  stand : (path : PathBytes) (entries rest : List Entry) (answers : List Answer) → All (λ entry. is_before path entry.path ≡ true) (entries ++ rest) → StandAfter path (table_of offset entries answers)
-  stand path [] rest answers h = tt
-  stand path (entry ∷ entries) rest [] h = tt
-  stand path (entry ∷ entries) rest (answer ∷ answers) h =
-      stands_more path entry.path (outcome offset answer) (table_of offset entries answers) (h 0 entry (omega arith))
-      (stand path entries rest answers (λ k d within. h (suc k) d (omega arith)))
+  -- what became of those that give no attributes is all that is printed of files that were read
+  pub noted_seen : (report : Report) (files : List ReadFile)
+      → noted_all report (filter_map reason_of (map (seen_file condition) files)) ≡ noted_all report (read_findings condition.offset (entries_of files) (answers_of files))
+  noted_seen report files =
+      let alike = alike_seen files in
+      λ i. record {
+        end = worse report.end (if alike.failed i then ended.Failed else if alike.absent i then ended.Absent else ended.Ok);
+        out = report.out;
+        err = report.err ++ alike.lines i;
+      }
 
-  -- the first of files that ascend have rows that do
-  pub rows_ascend : (entries rest : List Entry) (answers : List Answer) → AllPairs (λ entry other. is_before entry.path other.path ≡ true) (entries ++ rest) → IsTable (table_of offset entries answers)
-  rows_ascend [] rest answers h = tt
-  rows_ascend (entry ∷ entries) rest [] h = tt
-  rows_ascend (entry ∷ entries) rest (answer ∷ answers) h =
-      table_more entry.path (outcome offset answer) (table_of offset entries answers)
-      (stand entry.path entries rest answers (λ k d within. h 0 (suc k) d (omega arith) (omega arith)))
-      (rows_ascend entries rest answers (λ i j d below within. h (suc i) (suc j) d (omega arith) (omega arith)))
+  tested : (row : Row) (rows : List Row) (b : Bool) → passes condition row ≡ b
+      → cons_option (hit_at row.path (seen.Tested (passes condition row))) (paths_of (filter (passes condition) rows)) ≡ paths_of (filter (passes condition) (row ∷ rows))
+  tested row rows true is = rw is refl
+  tested row rows false is = rw is refl
 
-  -- what the parsing of each file gives, as one list
-  pub all_asked : (files : List ReadFile) (made : List AskedFile) → AllZip (λ file (one : Result AskedFile AllocError). IfOk one (λ m. m ≡ asked_file offset file)) files (map Ok made) → made ≡ map (asked_file offset) files
-  all_asked [] [] h = refl
-  all_asked [] (m ∷ made) h = absurd h
-  all_asked (file ∷ files) [] h = absurd h
-  all_asked (file ∷ files) (m ∷ made) h = rw (h.0, all_asked files made h.1) refl
+  hits_more : (path : PathBytes) (given : Asked) (rows : List Row)
+      → cons_option (hit_at path (seen_as condition path given)) (paths_of (filter (passes condition) rows)) ≡ paths_of (filter (passes condition) (cons_option (row_of path given) rows))
+  hits_more path (asked.Attrs attrs) rows = tested (record { path = path; attrs = attrs }) rows (passes condition (record { path = path; attrs = attrs })) refl
+  hits_more path (asked.Fault fault) rows = refl
+  hits_more path asked.Absent rows = refl
+  hits_more path asked.Failed rows = refl
+
+  -- the hits among files that were read are the paths of the rows that pass
+  pub hits_seen : (files : List ReadFile)
+      → filter_map hit_of (map (seen_file condition) files) ≡ paths_of (filter (passes condition) (table_of condition.offset (entries_of files) (answers_of files)))
+  hits_seen [] = refl
+  hits_seen (file ∷ files) =
+      let given = outcome condition.offset (answer_of file) in
+      ap (cons_option (hit_at file.entry.path (seen_as condition file.entry.path given))) (hits_seen files)
+      ∙ hits_more file.entry.path given (table_of condition.offset (entries_of files) (answers_of files))
+
+  -- what a search makes of each file, as one list
+  pub all_seen : (files : List ReadFile) (made : List SeenFile) → AllZip (λ file (one : Result SeenFile AllocError). IfOk one (λ m. m ≡ seen_file condition file)) files (map Ok made) → made ≡ map (seen_file condition) files
+  all_seen [] [] h = refl
+  all_seen [] (m ∷ made) h = absurd h
+  all_seen (file ∷ files) [] h = absurd h
+  all_seen (file ∷ files) (m ∷ made) h = rw (h.0, all_seen files made h.1) refl
 
 -- each file between others was changed at a moment
 pub moments_read : (entries : List Entry) (files : List ReadFile) (rest : List Entry) → All (λ entry. IsMoment entry.changed) (entries ++ (entries_of files ++ rest)) → All (λ file. IsMoment file.entry.changed) files
@@ -73,23 +94,3 @@ moments_read [] [] rest h = All-nil (λ (file : ReadFile). IsMoment file.entry.c
 moments_read [] (file ∷ files) rest h =
     All-cons (λ (f : ReadFile). IsMoment f.entry.changed) file files (All-head (λ (entry : Entry). IsMoment entry.changed) file.entry (entries_of files ++ rest) h)
     (moments_read [] files rest (All-tail (λ (entry : Entry). IsMoment entry.changed) file.entry (entries_of files ++ rest) h))
-
--- a row that stands after all others is the last
-set_last : (rows rest : List Row) (row : Option Row) → IsTable (rows ++ cons_option row rest) → with_some rows row ≡ rows ++ cons_option row []
-set_last rows rest None h = sym (append-nil rows)
-set_last rows rest (Some row) h = with_rows_append rows (row ∷ []) (table_front (rows ++ row ∷ []) rest (subst IsTable (sym (append_assoc rows (row ∷ []) rest)) h))
-
--- the rows behind held ones, with that of one file more
-pub rows_more : (held : List Row) (files rest : List AskedFile) (file : AskedFile) → IsTable (held ++ rows_of (files ++ file ∷ rest))
-    → with_some (held ++ rows_of files) (row_of file.path file.asked) ≡ held ++ rows_of (files ++ file ∷ [])
-rows_more held files rest file h =
-    let row = row_of file.path file.asked in
-    let all : IsTable ((held ++ rows_of files) ++ cons_option row (rows_of rest)) =
-    subst IsTable (sym (append_assoc held (rows_of files) (cons_option row (rows_of rest)))) (rw (filter_map-append (λ (f : AskedFile). row_of f.path f.asked) files (file ∷ rest)) at h) in
-    rw (filter_map-append (λ (f : AskedFile). row_of f.path f.asked) files (file ∷ []))
-    (set_last (held ++ rows_of files) (rows_of rest) row all ∙ append_assoc held (rows_of files) (cons_option row []))
-
--- a shown row has the path of the row
-pub paths_shown : (rows : List Row) → paths_of (map shown rows) ≡ paths_of rows
-paths_shown [] = refl
-paths_shown (row ∷ rows) = ap (λ paths. row.path ∷ paths) (paths_shown rows)

@@ -1,72 +1,61 @@
 -- Files that are gathered in batches, and what is found among them.
-use Rattle.std.proofs.Common.{◌≡◌, ℕ, ℤ, true, List, [], ◌++◌, map, refl, sym, ◌∙◌, ap, subst, AllPairs, append_assoc, Option}
-use Rattle.md_value.specs.Values.{is_before}
+use Rattle.std.proofs.Common.{◌≡◌, ℕ, List, [], ◌++◌, map, filter, sym, ◌∙◌, ap, Option}
+use Rattle.std.proofs.lemmas.List.{map-append}
+use Rattle.std.proofs.lemmas.List.Elements.{filter-append}
+use Rattle.std.specs.List.{filter_map}
+use Rattle.md_value.specs.Values.{PathBytes}
 use Rattle.md_source.specs.Tree.{Content}
 use Rattle.md_source.specs.declared.tree.Entry.{Entry}
 use Rattle.md_world.specs.declared.Row.{Row}
 use Rattle.md_world.specs.Differences.{paths_of}
-use Rattle.md_world.specs.Tables.{IsTable}
-use Rattle.md_machine.specs.declared.Spec.{Spec}
-use Rattle.md_machine.specs.Answers.{answer, shown_answer}
-use Rattle.md_machine.specs.States.{State}
+use Rattle.md_match.specs.Conditions.{Condition, passes}
 use Rattle.md_files.specs.Additions.{no_report}
 use Rattle.md_files.specs.Answers.{Answer, IsRead}
 use Rattle.md_files.specs.Findings.{Finding, read_findings}
 use Rattle.md_files.specs.Folders.{AreRead}
 use Rattle.md_files.specs.Reports.{Report, report_of}
-use Rattle.md_find.specs.declared.finding.Output.{Output}
 use Rattle.md_find.specs.declared.reading.ReadFile.{ReadFile}
-use Rattle.md_find.specs.Files.{table_of, answers_of, entries_of, asked_file, finding_of, rows_of}
-use Rattle.md_find.specs.Finds.{found_text, FindsAmong}
-use Rattle.md_find.specs.Loading.{IsIdle}
+use Rattle.md_find.specs.Files.{table_of, answers_of, entries_of, seen_file, hit_of, reason_of}
 use Rattle.md_find.specs.Notes.{noted_all}
-use Rattle.md_find.proofs.Files.{table_read, findings_read, rows_ascend, paths_shown}
+use Rattle.md_find.proofs.Files.{hits_seen, noted_seen}
 use Rattle.md_find.proofs.Joins.{in_turn_join, findings_join, table_join}
 use Rattle.md_find.proofs.Notes.{noted_join}
 
--- files were asked for in turn, what became of each is reported, and the server has the rows of those that give attributes
-pub record Gathers (told : Option Content) (before now : ℕ) (offset : ℤ) (entries : List Entry) (report : Report) (state : State) : Type 0 where
+-- the paths of the rows that pass
+abbrev pub passing : Condition → List Row → List PathBytes
+passing condition rows = paths_of (filter (passes condition) rows)
+
+passing_join : (condition : Condition) (rows others : List Row) → passing condition (rows ++ others) ≡ passing condition rows ++ passing condition others
+passing_join condition rows others =
+    ap paths_of (filter-append (passes condition) rows others) ∙ map-append (λ (row : Row). row.path) (filter (passes condition) rows) (filter (passes condition) others)
+
+-- files were asked for in turn, what became of each is reported, and these are the paths of the rows that pass
+pub record Gathers (told : Option Content) (before now : ℕ) (condition : Condition) (entries : List Entry) (report : Report) (hits : List PathBytes) : Type 0 where
   pub answers : List Answer
   pub asked : AreRead told before now entries answers
-  pub noted : report ≡ report_of [] (read_findings offset entries answers)
-  pub table : state.table ≡ table_of offset entries answers
-  pub idle : IsIdle state
+  pub noted : report ≡ report_of [] (read_findings condition.offset entries answers)
+  pub found : hits ≡ passing condition (table_of condition.offset entries answers)
 
-module _ (told : Option Content) (before between : ℕ) (offset : ℤ) (entries : List Entry) (old : Report) (held : State) (files : List ReadFile) (gathers : Gathers told before between offset entries old held) where
-  -- the rows of a batch go on where those of the files before it end
-  pub batch_ascends : (rest : List Entry) → AllPairs (λ entry other. is_before entry.path other.path ≡ true) (entries ++ (entries_of files ++ rest))
-      → IsTable (held.table ++ rows_of (map (asked_file offset) files))
-  batch_ascends rest ordered =
-      let all = rows_ascend offset (entries ++ entries_of files) rest (gathers.answers ++ answers_of files)
-      (subst (AllPairs (λ (entry other : Entry). is_before entry.path other.path ≡ true)) (sym (append_assoc entries (entries_of files) rest)) ordered) in
-      rw (gathers.table, sym (table_read offset files)) (subst IsTable (table_join told before between offset entries gathers.answers (entries_of files) (answers_of files) gathers.asked) all)
-
-  -- with one batch more
-  pub gathers_more : (now : ℕ) (new : Report) (state : State) → AreRead told between now (entries_of files) (answers_of files)
-      → new ≡ noted_all old (map finding_of (map (asked_file offset) files)) → state.table ≡ held.table ++ rows_of (map (asked_file offset) files) → IsIdle state
-      → Gathers told before now offset (entries ++ entries_of files) new state
-  gathers_more now new state read is_new is_table idle =
-      let earlier = read_findings offset entries gathers.answers in
-      let made = map finding_of (map (asked_file offset) files) in
-      let findings : read_findings offset (entries ++ entries_of files) (gathers.answers ++ answers_of files) ≡ earlier ++ made =
-      findings_join told before between offset entries gathers.answers (entries_of files) (answers_of files) gathers.asked ∙ ap (λ (fs : List Finding). earlier ++ fs) (findings_read offset files) in
-      let table : table_of offset (entries ++ entries_of files) (gathers.answers ++ answers_of files) ≡ table_of offset entries gathers.answers ++ rows_of (map (asked_file offset) files) =
-      table_join told before between offset entries gathers.answers (entries_of files) (answers_of files) gathers.asked ∙ ap (λ (rows : List Row). table_of offset entries gathers.answers ++ rows) (table_read offset files) in
+-- with one batch more
+module _ (told : Option Content) (before between now : ℕ) (condition : Condition) (entries : List Entry) (old : Report) (held : List PathBytes) (gathers : Gathers told before between condition entries old held) where
+  pub gathers_more : (files : List ReadFile) (new : Report) (hits : List PathBytes) → AreRead told between now (entries_of files) (answers_of files)
+      → new ≡ noted_all old (filter_map reason_of (map (seen_file condition) files)) → hits ≡ held ++ filter_map hit_of (map (seen_file condition) files)
+      → Gathers told before now condition (entries ++ entries_of files) new hits
+  gathers_more files new hits read is_new is_hits =
+      let offset = condition.offset in
+      let answers = gathers.answers in
+      let batch = entries_of files in
+      let others = answers_of files in
+      let earlier = read_findings offset entries answers in
+      let later = read_findings offset batch others in
+      let joined = findings_join told before between offset entries answers batch others gathers.asked in
+      let table = table_join told before between offset entries answers batch others gathers.asked in
+      let both = passing_join condition (table_of offset entries answers) (table_of offset batch others) in
+      let front = ap (λ (paths : List PathBytes). paths ++ filter_map hit_of (map (seen_file condition) files)) gathers.found in
+      let rest = ap (λ (paths : List PathBytes). passing condition (table_of offset entries answers) ++ paths) (hits_seen condition files) in
       record {
-        answers = gathers.answers ++ answers_of files;
-        asked = in_turn_join (IsRead told) between before now entries gathers.answers (entries_of files) (answers_of files) gathers.asked read;
-        noted = is_new ∙ ap (λ (r : Report). noted_all r made) gathers.noted ∙ noted_join no_report earlier made ∙ ap (report_of []) (sym findings);
-        table = is_table ∙ ap (λ (rows : List Row). rows ++ rows_of (map (asked_file offset) files)) gathers.table ∙ sym table;
-        idle = idle;
-      }
-
-module _ (told : Option Content) (before now : ℕ) (query : Spec) (output : Output) (entries : List Entry) (old : Report) (state : State) where
-  -- the text of the hits' paths, and what became of each file
-  pub among : (rows : List Row) (text : List ℕ) (new : Report) → Gathers told before now query.offset entries old state → rows ≡ shown_answer query state.table → text ≡ found_text output (paths_of rows)
-      → new ≡ record old { out = old.out ++ text } → FindsAmong told before now query output entries new
-  among rows text new gathers is_rows is_text is_new =
-      record {
-        answers = gathers.answers;
-        asked = gathers.asked;
-        is = rw (is_new, gathers.noted, is_text, is_rows, gathers.table, paths_shown (answer query (table_of query.offset entries gathers.answers))) refl;
+        answers = answers ++ others;
+        asked = in_turn_join (IsRead told) between before now entries answers batch others gathers.asked read;
+        noted = is_new ∙ noted_seen condition old files ∙ ap (λ (r : Report). noted_all r later) gathers.noted ∙ noted_join no_report earlier later ∙ ap (report_of []) (sym joined);
+        found = is_hits ∙ front ∙ rest ∙ sym both ∙ ap (passing condition) (sym table);
       }

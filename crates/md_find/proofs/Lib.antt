@@ -4,5 +4,6 @@ pub mod Files
 pub mod Notes
 pub mod Joins
 pub mod Gathered
+pub mod Among
 pub mod Below
 pub mod Causes

@@ -1,5 +1,5 @@
 -- Files that were read, and what they give.
-use Rattle.std.specs.Prelude.{ℤ, List, map, Option, Some, None}
+use Rattle.std.specs.Prelude.{ℤ, true, List, map, Option, Some, None}
 use Rattle.std.specs.List.{zip, filter_map}
 use Rattle.md_value.specs.Values.{PathBytes}
 use Rattle.md_source.specs.declared.tree.Entry.{Entry}
@@ -13,7 +13,10 @@ use Rattle.md_files.specs.declared.asking.Asked.TheVariants as asked
 use Rattle.md_find.specs.declared.reading.Front.{Front}
 use Rattle.md_find.specs.declared.reading.Front.TheVariants as front
 use Rattle.md_find.specs.declared.reading.ReadFile.{ReadFile}
-use Rattle.md_find.specs.declared.parsing.AskedFile.{AskedFile}
+use Rattle.md_find.specs.declared.testing.Seen.{Seen}
+use Rattle.md_find.specs.declared.testing.Seen.TheVariants as seen
+use Rattle.md_find.specs.declared.testing.SeenFile.{SeenFile}
+use Rattle.md_match.specs.Conditions.{Condition, passes}
 
 -- the row of a file that gives attributes
 abbrev pub row_of : PathBytes → Asked → Option Row
@@ -39,14 +42,28 @@ answers_of files = map answer_of files
 abbrev pub entries_of : List ReadFile → List Entry
 entries_of files = map (λ file. file.entry) files
 
--- what a file gives that was read
-abbrev pub asked_file : ℤ → ReadFile → AskedFile
-asked_file offset file = record { path = file.entry.path; asked = outcome offset (answer_of file) }
+-- what a search makes of a file that gives this: whether its row passes, if it gives attributes
+abbrev pub seen_as : Condition → PathBytes → Asked → Seen
+seen_as condition path (asked.Attrs attrs) = seen.Tested (passes condition (record { path = path; attrs = attrs }))
+seen_as condition path bare = seen.Bare bare
 
--- what became of a file
-abbrev pub finding_of : AskedFile → Finding
-finding_of file = listed file.path file.asked
+-- what it makes of a file that was read
+abbrev pub seen_file : Condition → ReadFile → SeenFile
+seen_file condition file =
+    record { path = file.entry.path; seen = seen_as condition file.entry.path (outcome condition.offset (answer_of file)) }
 
--- the rows of the files that give attributes
-abbrev pub rows_of : List AskedFile → List Row
-rows_of files = filter_map (λ file. row_of file.path file.asked) files
+-- the path of a hit
+abbrev pub hit_at : PathBytes → Seen → Option PathBytes
+hit_at path (seen.Tested true) = Some path
+hit_at path _ = None
+
+abbrev pub hit_of : SeenFile → Option PathBytes
+hit_of file = hit_at file.path file.seen
+
+-- what became of a file that gives no attributes
+abbrev pub reason_at : PathBytes → Seen → Option Finding
+reason_at path (seen.Bare bare) = Some (listed path bare)
+reason_at path _ = None
+
+abbrev pub reason_of : SeenFile → Option Finding
+reason_of file = reason_at file.path file.seen

@@ -1,5 +1,5 @@
 -- What a search gives.
-use Rattle.std.specs.Prelude.{◌≡◌, ℕ, List, [], ◌∷◌, ◌++◌, length, codes, Option, Some, None}
+use Rattle.std.specs.Prelude.{◌≡◌, ℕ, List, [], ◌∷◌, ◌++◌, length, filter, codes, Option, Some, None}
 use Rattle.std.specs.Fmt.{decimal}
 use Rattle.std.specs.List.{flat_map}
 use Rattle.std.specs.Option.{option_map}
@@ -7,6 +7,7 @@ use Rattle.md_value.specs.Values.{PathBytes}
 use Rattle.md_source.specs.Tree.{Content}
 use Rattle.md_source.specs.declared.tree.Entry.{Entry}
 use Rattle.md_world.specs.Differences.{paths_of}
+use Rattle.md_match.specs.Conditions.{Condition, passes}
 use Rattle.md_match.specs.Forms.{first_out_of_range, capped}
 use Rattle.md_machine.specs.declared.Spec.{Spec}
 use Rattle.md_machine.specs.Answers.{no_batch}
@@ -80,7 +81,13 @@ abbrev pub EndsBy : Found → End → Type 0
 EndsBy (found.Report report) end = report.end ≡ end
 EndsBy _ end = ⊥
 
--- the files of a listing were asked for in turn, and this is found among them
+-- the files of a listing were asked for in turn, and this is found among them by a condition
+pub record FindsBy (told : Option Content) (before now : ℕ) (condition : Condition) (output : Output) (entries : List Entry) (report : Report) : Type 0 where
+  pub answers : List Answer
+  pub asked : AreRead told before now entries answers
+  pub is : report ≡ report_of (found_text output (paths_of (filter (passes condition) (table_of condition.offset entries answers)))) (read_findings condition.offset entries answers)
+
+-- and by a query
 pub record FindsAmong (told : Option Content) (before now : ℕ) (query : Spec) (output : Output) (entries : List Entry) (report : Report) : Type 0 where
   pub answers : List Answer
   pub asked : AreRead told before now entries answers

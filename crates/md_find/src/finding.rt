@@ -1,35 +1,34 @@
 // The run of `mdfind`.
-ghost use Rattle.std.specs.Prelude.{◌≡◌, ◌∷◌, [], ◌≤◌, ◌<◌, true, false, All, AllPairs, IfOk, OnOk, IfSome, None, length, map};
-ghost use Rattle.md_value.specs.Values.{IsMoment, is_before};
+ghost use Rattle.std.specs.Prelude.{◌≡◌, ◌∷◌, ◌++◌, [], ◌≤◌, ◌<◌, true, false, All, IfOk, OnOk, IfSome, None, length};
+ghost use Rattle.std.specs.List.{cons_option, filter_map};
+ghost use Rattle.md_value.specs.Values.{IsMoment};
 ghost use Rattle.md_source.specs.Causes.{Rose};
 ghost use Rattle.md_source.specs.Tree.{has_folder, entries_below};
 ghost use Rattle.md_files.specs.Findings.Finding.{named, no_listing};
 ghost use Rattle.md_files.specs.Reports.{report_of};
-ghost use Rattle.md_machine.specs.Answers.{no_batch};
-ghost use Rattle.md_find.specs.Files.{finding_of};
+ghost use Rattle.md_find.specs.Files.{hit_of, reason_of};
 ghost use Rattle.md_find.specs.Folders.{most_files};
 ghost use Rattle.md_find.specs.Notes.{noted_all};
-ghost use Rattle.md_find.specs.Finds.{found_text, FindsAmong, FindsBelow, Finds, HasCause, EndsBy, form_out, form_told};
+ghost use Rattle.md_find.specs.Finds.{found_text, FindsBy, FindsAmong, FindsBelow, Finds, HasCause, EndsBy, form_out, form_told};
 
-use crate::answering::{hits, load};
-use crate::parsing::{AskedFile, asked_files};
 use crate::printing::found_text;
 use crate::reading::{list_files, read_files};
+use crate::testing::{Seen, SeenFile, seen_files};
 use md_expr_tree::Expr;
 use md_files::{Asked, End, Report};
-use md_hub::Hub;
 use md_machine::{Batch, Spec, TimeOutOfRange};
+use md_match::Filter;
 use md_source::{Entry, ListEnd, Tree};
 use md_value::Path;
-use md_world::{Limits, Order};
+use md_world::Order;
 use std::alloc::{AllocError, Global};
 use std::thread::Threads;
 
 /// The most files of a folder that is searched.
 pub const MOST_FILES: usize = 1_000_000;
 
-/// The most files that are read before they are imported and put into the server. The bytes of no more files are held at
-/// once.
+/// The most files that are read before they are imported and tested. The bytes of no more files are held at once, and
+/// of a file that is tested only its path.
 const BATCH: usize = 1_000;
 
 /// What is searched for, and where.
@@ -67,14 +66,70 @@ pub enum Found {
     OutOfRange(u32),
 }
 
-// Adds what became of files to a report.
-fn note(alloc: Global, report: &mut Report, files: &[AskedFile]) -> Result<(), AllocError>
-    ensures { OnOk result (report.new ≡ noted_all report.old (map finding_of files.now)) }
+// Adds to a report what became of a file that gives no attributes.
+fn note_file(alloc: Global, report: &mut Report, file: &SeenFile) -> Result<(), AllocError>
+    ensures { OnOk result (report.new ≡ noted_all report.old (cons_option (reason_of file.now) [])) }
+{
+    match &file.seen {
+        Seen::Tested(_) => Ok(()),
+        Seen::Bare(asked) => report.add_listed(alloc, &file.path, asked),
+    }
+}
+
+fn note(alloc: Global, report: &mut Report, files: &[SeenFile]) -> Result<(), AllocError>
+    ensures { OnOk result (report.new ≡ noted_all report.old (filter_map reason_of files.now)) }
 {
     for file in files {
-        report.add_listed(alloc, &file.path, &file.asked)?;
+        note_file(alloc, report, file)?;
     }
     Ok(())
+}
+
+// Adds the path of a file to those of the hits before it, if it is a hit.
+fn keep_file(hits: &mut Vec<Path>, file: SeenFile) -> Result<(), AllocError>
+    ensures { OnOk result (hits.new.items ≡ hits.old.items ++ cons_option (hit_of file) []) }
+{
+    let SeenFile { path, seen } = file;
+    if let Seen::Tested(true) = seen {
+        hits.push(path)?;
+    }
+    Ok(())
+}
+
+fn keep(hits: &mut Vec<Path>, files: Vec<SeenFile>) -> Result<(), AllocError>
+    ensures { OnOk result (hits.new.items ≡ hits.old.items ++ filter_map hit_of files.items) }
+{
+    for file in files {
+        keep_file(hits, file)?;
+    }
+    Ok(())
+}
+
+// What is found by a filter among these files.
+fn find_by<R: Threads + Sync, T: Tree>(
+    rt: &R,
+    alloc: Global,
+    tree: &mut T,
+    entries: &[Entry],
+    filter: &Filter,
+    output: Output,
+) -> Result<Report, AllocError>
+    requires { All (λ entry. IsMoment entry.changed) entries.now }
+    ensures found { IfOk result (λ report. FindsBy (T.content tree.old) (T.faults tree.old) (T.faults tree.new) filter.now output entries.now report) }
+    ensures later { T.faults tree.old ≤ T.faults tree.new }
+    ensures content { T.content tree.new ≡ T.content tree.old }
+{
+    let mut report = Report::new(alloc);
+    let mut hits = Vec::new(alloc);
+    for batch in entries.chunks(BATCH) {
+        let files = read_files(alloc, tree, batch)?;
+        let files = seen_files(rt, alloc, filter, files)?;
+        note(alloc, &mut report, &files)?;
+        keep(&mut hits, files)?;
+    }
+    let text = found_text(alloc, output, hits.as_slice())?;
+    report.push_out(text.as_str())?;
+    Ok(report)
 }
 
 // What is found among these files.
@@ -83,28 +138,16 @@ fn find_among<R: Threads + Sync, T: Tree>(
     alloc: Global,
     tree: &mut T,
     entries: &[Entry],
-    spec: Spec,
+    spec: &Spec,
     output: Output,
 ) -> Result<Report, AllocError>
-    requires moments { All (λ entry. IsMoment entry.changed) entries.now }
-    requires ordered { AllPairs (λ entry other. is_before entry.path other.path ≡ true) entries.now }
-    requires batch { spec.batch ≡ no_batch }
-    ensures found { IfOk result (λ report. FindsAmong (T.content tree.old) (T.faults tree.old) (T.faults tree.new) spec output entries.now report) }
+    requires { All (λ entry. IsMoment entry.changed) entries.now }
+    ensures found { IfOk result (λ report. FindsAmong (T.content tree.old) (T.faults tree.old) (T.faults tree.new) spec.entry.now output entries.now report) }
     ensures later { T.faults tree.old ≤ T.faults tree.new }
     ensures content { T.content tree.new ≡ T.content tree.old }
 {
-    let mut report = Report::new(alloc);
-    let mut hub = Hub::new(alloc, Limits::STANDARD);
-    for batch in entries.chunks(BATCH) {
-        let files = read_files(alloc, tree, batch)?;
-        let files = asked_files(rt, alloc, files, spec.offset)?;
-        note(alloc, &mut report, &files)?;
-        load(alloc, &mut hub, files)?;
-    }
-    let rows = hits(alloc, &mut hub, spec)?;
-    let text = found_text(alloc, output, rows.as_slice())?;
-    report.push_out(text.as_str())?;
-    Ok(report)
+    let filter = Filter::of(alloc, &spec.expr, spec.now, spec.offset, &spec.scope)?;
+    find_by(rt, alloc, tree, entries, &filter, output)
 }
 
 // What is printed where no file is found.
@@ -141,7 +184,6 @@ fn find_below<R: Threads + Sync, T: Tree>(
     spec: Spec,
     output: Output,
 ) -> Result<Found, AllocError>
-    requires { spec.batch ≡ no_batch }
     ensures finds { IfOk result (λ found. FindsBelow (T.content tree.old) (T.faults tree.old) (T.faults tree.new) spec output found) }
     ensures later { T.faults tree.old ≤ T.faults tree.new }
     ensures content { T.content tree.new ≡ T.content tree.old }
@@ -151,7 +193,7 @@ fn find_below<R: Threads + Sync, T: Tree>(
             if entries.len() > MOST_FILES {
                 return Ok(Found::Full);
             }
-            let report = find_among(rt, alloc, tree, &entries, spec, output)?;
+            let report = find_among(rt, alloc, tree, &entries, &spec, output)?;
             Ok(Found::Report(report))
         }
         Err(ListEnd::Absent) => Ok(Found::Report(absent(alloc, &spec.scope, output)?)),
@@ -162,8 +204,8 @@ fn find_below<R: Threads + Sync, T: Tree>(
 
 /// Asks a tree for the files below the search's folder, imports them, and makes the text of the paths of those that
 /// satisfy the expression, ascending by bytes. The forms of time are told first; where one is out of range, the tree is not
-/// asked. The files are read by this thread in path order and imported in as many threads as there are processors, at most
-/// 1,000 at a time.
+/// asked. The files are read by this thread in path order and imported and tested in as many threads as there are
+/// processors, at most 1,000 at a time.
 ///
 /// A file with a fault of its content has a line on err and is not among the files that are searched; so it is with one that
 /// could not be read. A file that is absent when it is read is passed over. A folder that is absent or could not be listed

@@ -14,11 +14,8 @@ returns-then-len-gt-MOST_FILES-clause-finds g c =
       is = refl;
     }
 
-pub find_among-requires-clause-moments : goal.find_among-requires-clause-moments
-find_among-requires-clause-moments g c = λ κs bounds. rw c.deref.ensures.value c.in-Ok.ensures.listed.listing.moments
-
-pub find_among-requires-clause-ordered : goal.find_among-requires-clause-ordered
-find_among-requires-clause-ordered g c = λ κs bounds. rw c.deref.ensures.value c.in-Ok.ensures.listed.ordered
+pub find_among-requires-after_bounds : goal.find_among-requires-after_bounds
+find_among-requires-after_bounds g c = λ κs bounds. rw c.deref.ensures.value c.in-Ok.ensures.listed.listing.moments
 
 pub returns-in-Ok-clause-finds : goal.returns-in-Ok-clause-finds
 returns-in-Ok-clause-finds g c =
