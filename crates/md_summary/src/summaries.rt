@@ -1,14 +1,16 @@
 // The summary of a generated run.
-ghost use Rattle.std.specs.Prelude.{◌≡◌, ◌≤◌, ◌∷◌, [], IfOk, Ok, codes, length, string_bytes};
+ghost use Rattle.std.specs.Prelude.{◌≡◌, ◌≤◌, ◌∷◌, [], IfOk, None, Ok, codes, length, pos, string_bytes};
 ghost use Rattle.md_words.specs.Grammar.{most_made};
 ghost use Rattle.md_script.specs.Limits.{most_lines};
 ghost use Rattle.md_script.specs.Scripts.{verdict};
+ghost use Rattle.md_gen.specs.Reads.{IsRead};
+ghost use Rattle.md_live.specs.TimeForms.{out_of_range};
 ghost use Rattle.md_summary.specs.Summary.{Summarizes};
 
 use crate::printed::summary_text;
-use md_gen::make;
+use md_gen::{each_is_read, make};
 use md_live::sum_up;
-use md_script::{Script, read_script};
+use md_script::{Script, ScriptError, read_script};
 use md_source::SureTree;
 use md_value::{Path, PathError};
 use std::alloc::{AllocError, Global};
@@ -37,15 +39,17 @@ fn folders(alloc: Global) -> Result<Vec<Path>, AllocError>
     Ok(folders)
 }
 
-// Reads a generated script. Each is in the grammar, so it is refused for want of memory alone; were one refused for another
-// reason, this would answer want of memory.
+// Reads a generated script, which is refused for want of memory alone.
 fn read(alloc: Global, text: &str) -> Result<Script, AllocError>
+    requires { IsRead text.now }
     ensures script { IfOk result (λ script. verdict text.now ≡ Ok script) }
+    ensures timely { IfOk result (λ script. out_of_range (pos 0) (pos 0) script ≡ None) }
     ensures few { IfOk result (λ script. length script ≤ most_lines) }
 {
     match read_script(alloc, text.as_bytes()) {
         Ok(script) => Ok(script),
-        Err(_) => Err(AllocError),
+        Err(ScriptError::Memory) => Err(AllocError),
+        Err(_) => unreachable!(),
     }
 }
 
@@ -58,6 +62,7 @@ pub fn summarize(alloc: Global, start: u64, count: u32) -> Result<String, AllocE
     ensures { IfOk result (λ text. Summarizes start count (string_bytes text)) }
 {
     let made = make(alloc, start, count)?;
+    each_is_read();
     let script = read(alloc, made.script.as_str())?;
     let mut tree = SureTree::new(folders(alloc)?, made.files);
     let sum = sum_up(alloc, &mut tree, 0, 0, script.lines(), &CLIENTS)?;
