@@ -5,7 +5,7 @@
 ghost use Rattle.std.specs.Prelude.{◌≡◌, ◌++◌, IfOk, OnOk};
 ghost use Rattle.md_world.specs.Tables.{IsTable, with_row};
 ghost use Rattle.md_machine.specs.Answers.{shown_answer};
-ghost use Rattle.md_machine.specs.declared.TheConstants.Batch.{NONE};
+ghost use Rattle.md_machine.specs.Answers.{no_batch};
 ghost use Rattle.md_find.specs.Files.{row_of, rows_of};
 ghost use Rattle.md_find.specs.Loading.{IsIdle, with_some};
 
@@ -63,7 +63,7 @@ pub fn load(alloc: Global, hub: &mut Hub, files: Vec<AskedFile>) -> Result<(), A
 /// All hits of a query that has no batches, as shown rows in path order. Fails only where memory runs out.
 pub fn hits(alloc: Global, hub: &mut Hub, spec: Spec) -> Result<Rows, AllocError>
     requires idle { IsIdle hub.old }
-    requires batch { spec.batch ≡ NONE }
+    requires batch { spec.batch ≡ no_batch }
     ensures { IfOk result (λ rows. rows ≡ shown_answer spec hub.old.table) }
 {
     let (client, number) = (0, 0);

@@ -5,7 +5,7 @@ ghost use Rattle.md_source.specs.Causes.{Rose};
 ghost use Rattle.md_source.specs.Tree.{has_folder, entries_below};
 ghost use Rattle.md_files.specs.Findings.Finding.{named, no_listing};
 ghost use Rattle.md_files.specs.Reports.{report_of};
-ghost use Rattle.md_machine.specs.declared.TheConstants.Batch.{NONE};
+ghost use Rattle.md_machine.specs.Answers.{no_batch};
 ghost use Rattle.md_find.specs.Files.{finding_of};
 ghost use Rattle.md_find.specs.Folders.{most_files};
 ghost use Rattle.md_find.specs.Notes.{noted_all};
@@ -88,7 +88,7 @@ fn find_among<R: Threads + Sync, T: Tree>(
 ) -> Result<Report, AllocError>
     requires moments { All (λ entry. IsMoment entry.changed) entries.now }
     requires ordered { AllPairs (λ entry other. is_before entry.path other.path ≡ true) entries.now }
-    requires batch { spec.batch ≡ NONE }
+    requires batch { spec.batch ≡ no_batch }
     ensures found { IfOk result (λ report. FindsAmong (T.content tree.old) (T.faults tree.old) (T.faults tree.new) spec output entries.now report) }
     ensures later { T.faults tree.old ≤ T.faults tree.new }
     ensures content { T.content tree.new ≡ T.content tree.old }
@@ -141,7 +141,7 @@ fn find_below<R: Threads + Sync, T: Tree>(
     spec: Spec,
     output: Output,
 ) -> Result<Found, AllocError>
-    requires { spec.batch ≡ NONE }
+    requires { spec.batch ≡ no_batch }
     ensures finds { IfOk result (λ found. FindsBelow (T.content tree.old) (T.faults tree.old) (T.faults tree.new) spec output found) }
     ensures later { T.faults tree.old ≤ T.faults tree.new }
     ensures content { T.content tree.new ≡ T.content tree.old }

@@ -10,4 +10,3 @@ mod searching;
 
 pub use finding::{Found, MOST_FILES, Output, Search, find};
 pub use searching::search;
-
