@@ -181,7 +181,8 @@ def day_lines(year):
             yield f"{text} none\n" if moment is None else f"{text} {moment} {printed(moment)}\n"
 
 
-YEARS = [0, 1, 2, 4, 99, 100, 400, 999, 1000, *range(1580, 2401), 4000, 9996, 9998, 9999]
+# The first and the last years of the sums: of all years that are written with four digits, most of them ten by ten.
+YEARS = [(year, year) for year in (0, 1, 1600, 1900, 1970, 2000, 2023, 2024, 9999)] + [(year, year + 9) for year in range(0, 10_000, 10)]
 
 
 def tables():
@@ -194,9 +195,9 @@ def tables():
     yield rows.table("iso_moments", SCRIPT, "text, offset in minutes, moment", [source], asked["iso"])
     yield rows.table("time_forms", SCRIPT, "unit, count, now, offset in minutes, moment", [source], asked["form"])
     yield rows.table("printed_moments", SCRIPT, "moment, text", [source], asked["print"])
-    yield rows.table("days", SCRIPT, "year, FNV-1a of 64 bits over a line for each day of twelve months of 31 days", [
+    yield rows.table("days", SCRIPT, "first year, last year, FNV-1a of 64 bits over a line for each day of twelve months of 31 days", [
         source, "A line is the date, its moment and that moment printed, or none in place of both.",
-    ], ((year, f"{fnv(''.join(day_lines(year))):016x}") for year in YEARS))
+    ], ((first, last, f"{fnv(''.join(line for year in range(first, last + 1) for line in day_lines(year))):016x}") for first, last in YEARS))
 
 
 if __name__ == "__main__":

@@ -1,7 +1,8 @@
 // Moments of time.
 use super::field::{Field, RowError};
 use super::sums::Sum;
-use md_time::{Form, HIGH, IsoText, LOW, NotDate, OutOfRange, print_moment, read_moment};
+use md_time::{Form, IsoText, OutOfRange, print_moment, read_moment};
+use md_value::{HIGH, LOW};
 use std::alloc::{AllocError, Global};
 
 fn shown<E: Drop>(alloc: Global, moment: Result<i64, E>) -> Result<String, AllocError> {
@@ -78,18 +79,25 @@ fn date_line(alloc: Global, text: &str) -> Result<String, AllocError> {
     }
 }
 
-/// A year: one sum over the moments, printed too, of its twelve months of 31 days.
-pub fn days_of_year(alloc: Global, fields: &[Field]) -> Result<String, RowError> {
-    let [year] = fields else {
-        return Err(RowError::Count);
-    };
-    let year = year.unsigned()?;
-    let mut sum = Sum::new();
+// Adds the lines of the twelve months of 31 days of a year.
+fn add_year(alloc: Global, sum: &mut Sum, year: u32) -> Result<(), AllocError> {
     for month in 1..13u32 {
         for day in 1..32u32 {
             let text = format!(in alloc; "{year:04}-{month:02}-{day:02}")?;
             sum.add(&date_line(alloc, &text)?);
         }
+    }
+    Ok(())
+}
+
+/// The first and the last of years: one sum over the moments, printed too, of their days.
+pub fn days_of_years(alloc: Global, fields: &[Field]) -> Result<String, RowError> {
+    let [first, last] = fields else {
+        return Err(RowError::Count);
+    };
+    let mut sum = Sum::new();
+    for year in first.count()?..=last.count()? {
+        add_year(alloc, &mut sum, year)?;
     }
     Ok(format!(in alloc; "{:016x}", sum.value())?)
 }
