@@ -34,6 +34,15 @@ fn push_word(shown: &mut String, word: &Option<Word>) -> Result<(), AllocError> 
     Ok(())
 }
 
+fn output_words(zero: bool, count: bool) -> &'static str {
+    match (zero, count) {
+        (false, false) => " find",
+        (true, false) => " find zero",
+        (false, true) => " find count",
+        (true, true) => " find zero count",
+    }
+}
+
 fn mode_word(mode: Mode) -> &'static str {
     match mode {
         Mode::Guess => " guess",
@@ -52,9 +61,7 @@ fn push_tool(shown: &mut String, tool: &Tool) -> Result<(), AllocError> {
             mode,
             text,
         } => {
-            shown.push_str(" find")?;
-            shown.push_str(if *zero { " zero" } else { "" })?;
-            shown.push_str(if *count { " count" } else { "" })?;
+            shown.push_str(output_words(*zero, *count))?;
             push_path(shown, scope)?;
             push_word(shown, name)?;
             shown.push_str(mode_word(*mode))?;
