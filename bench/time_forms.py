@@ -1,24 +1,17 @@
 #!/usr/bin/env python3
-"""Compares the moments of time forms and ISO texts with those of Python's datetime.
+"""Writes the tables of ISO texts, forms of time and printed moments, by Python's datetime.
 
-    bench/time_forms.py            compares 10,000 random rows and some chosen ones
-    bench/time_forms.py --rows 40  prints rows of the table: the line that is asked, and the answer
-
-The answers are worked out here from `datetime.date`'s ordinals and weekdays alone. A crate that asks
-`md_time` the same lines is written into a folder of its own outside the repository and run by `rt try`.
+The answers are worked out here from `datetime.date`'s ordinals and weekdays alone.
 """
 
-import argparse
 import datetime
-import pathlib
 import random
 import re
-import shutil
-import subprocess
-import sys
-import tempfile
 
-REPOSITORY = pathlib.Path(__file__).resolve().parent.parent
+import rows
+
+SCRIPT = "bench/time_forms.py"
+
 LOW, HIGH = -62135596800, 253402300799
 DAY = 86400
 EPOCH = datetime.date(1970, 1, 1).toordinal()
@@ -60,7 +53,8 @@ def form(unit, count, now, offset):
     return None if start is None else in_range(start - 60 * offset)
 
 
-def iso(text, offset):
+def iso_second(text, offset):
+    """The second of an ISO text, in range or not, or None where it is none."""
     match = ISO.fullmatch(text)
     if not match:
         return None
@@ -77,7 +71,11 @@ def iso(text, offset):
     else:
         ahead = 60 * zone.hour + zone.minute
         moment -= 60 * (-ahead if sign == "-" else ahead)
-    return in_range(moment)
+    return moment
+
+
+def iso(text, offset):
+    return in_range(iso_second(text, offset))
 
 
 def printed(moment):
@@ -87,14 +85,16 @@ def printed(moment):
 
 
 def answer(line):
-    kind, first, *rest = line.split(" ")
+    """The fields of the row that asks this line: what is asked, and the answer."""
+    kind, *words = line.split(" ")
     if kind == "iso":
-        moment = iso(first, int(rest[0]))
+        moment = iso(words[0], int(words[1]))
     elif kind == "print":
-        return printed(int(first))
+        return [*words, printed(int(words[0]))]
     else:
-        moment = form(kind, int(first), int(rest[0]), int(rest[1]))
-    return "-" if moment is None else str(moment)
+        moment = form(kind, *map(int, words))
+        words = [kind, *words]
+    return [*words, "none" if moment is None else moment]
 
 
 CHOSEN = [
@@ -164,93 +164,41 @@ def random_lines(number, seed):
             yield f"iso {text} {offset}"
 
 
-PROGRAM = """// Answers lines on time forms, ISO texts and printed moments.
-#![tactic(auto)]
-
-use md_time::{Form, IsoText, print_moment, read_moment};
-use std::alloc::Global;
-
-fn form(unit: &str, count: i64) -> Form {
-    match unit {
-        "now" => Form::Now(count),
-        "day" => Form::Day(count),
-        "week" => Form::Week(count),
-        "month" => Form::Month(count),
-        _ => Form::Year(count),
-    }
-}
-
-fn iso(text: &str, offset: i32) -> Option<i64> {
-    let read = read_moment(text, offset).ok();
-    let form = match IsoText::read(text) {
-        Some(iso) => Form::Iso(iso).moment(0, offset).ok(),
-        None => None,
-    };
-    if read == form { read } else { Some(0) }
-}
-
-fn number(text: &str) -> i64 {
-    text.parse::<i64>().unwrap_or(0)
-}
-
-fn main(rt: HostRuntime) -> anyhow::Result<()> {
-    let alloc: Global = rt.alloc();
-    for line in rt.lines(alloc) {
-        let line = line?;
-        let words: Vec<&str> = line.as_str().split(' ').collect(alloc)?;
-        let word = |i: usize| -> &str { words.get(i).copied().unwrap_or("") };
-        let moment = if word(0) == "print" {
-            println!(rt; "{}", print_moment(alloc, number(word(1)))?)?;
-            continue;
-        } else if word(0) == "iso" {
-            iso(word(1), number(word(2)) as i32)
-        } else {
-            form(word(0), number(word(1))).moment(number(word(2)), number(word(3)) as i32).ok()
-        };
-        match moment {
-            Some(moment) => println!(rt; "{moment}")?,
-            None => println!(rt; "-")?,
-        }
-    }
-    Ok(())
-}
-"""
+def fnv(text):
+    """FNV-1a of 64 bits."""
+    value = 0xCBF29CE484222325
+    for byte in text.encode():
+        value = (value ^ byte) * 0x100000001B3 % 2**64
+    return value
 
 
-def answers_of_crate(lines):
-    with tempfile.TemporaryDirectory(prefix="time_forms_") as folder:
-        top = pathlib.Path(folder)
-        shutil.copytree(REPOSITORY / "crates" / "md_time", top / "crates" / "md_time", ignore=shutil.ignore_patterns("out", "must-fail"))
-        source = top / "crates" / "time_forms" / "src"
-        source.mkdir(parents=True)
-        (source / "main.rt").write_text(PROGRAM)
-        (top / "crates.txt").write_text("md_time: jiff_core\ntime_forms: md_time anyhow\n")
-        (source.parent / "stdin").write_text("".join(line + "\n" for line in lines))
-        run = subprocess.run(["rt", "try"], cwd=source.parent, capture_output=True, text=True, stdin=open(source.parent / "stdin"))
-        if run.returncode:
-            sys.exit(run.stdout[-2000:] + run.stderr[-4000:])
-        return run.stdout.splitlines()
+def day_lines(year):
+    """Each day of twelve months of 31 days, with its moment and that moment printed."""
+    for month in range(1, 13):
+        for day in range(1, 32):
+            text = f"{year:04}-{month:02}-{day:02}"
+            moment = iso(text, 0)
+            yield f"{text} none\n" if moment is None else f"{text} {moment} {printed(moment)}\n"
 
 
-def main():
-    arguments = argparse.ArgumentParser(description=__doc__.splitlines()[0])
-    arguments.add_argument("--number", type=int, default=10_000, help="how many random rows")
-    arguments.add_argument("--seed", type=int, default=20240315)
-    arguments.add_argument("--rows", type=int, help="print this many rows and compare nothing")
-    given = arguments.parse_args()
-    lines = CHOSEN + list(random_lines(given.number, given.seed))
-    if given.rows:
-        for line in lines[: given.rows]:
-            print(f"{line} = {answer(line)}")
-        return
-    found = [text for text in answers_of_crate(lines) if not text.startswith("run=")]
-    wrong = [(line, answer(line), text) for line, text in zip(lines, found) if answer(line) != text]
-    for line, wanted, text in wrong[:20]:
-        print(f"{line}: {wanted} wanted, {text} found")
-    none = sum(answer(line) == "-" for line in lines)
-    print(f"{len(lines)} rows ({none} with no moment), {len(found)} answers, {len(wrong)} differ")
-    sys.exit(1 if wrong or len(found) != len(lines) else 0)
+# The first and the last years of the sums: of all years that are written with four digits, most of them ten by ten.
+YEARS = [(year, year) for year in (0, 1, 1600, 1900, 1970, 2000, 2023, 2024, 9999)] + [(year, year + 9) for year in range(0, 10_000, 10)]
+
+
+def tables():
+    source = "The wanted values are those of Python's datetime."
+    lines = CHOSEN + list(random_lines(6_000, 20240315))
+    asked = {"iso": [], "print": [], "form": []}
+    for line in lines:
+        kind = line.split(" ")[0]
+        asked[kind if kind in asked else "form"].append(answer(line))
+    yield rows.table("iso_moments", SCRIPT, "text, offset in minutes, moment", [source], asked["iso"])
+    yield rows.table("time_forms", SCRIPT, "unit, count, now, offset in minutes, moment", [source], asked["form"])
+    yield rows.table("printed_moments", SCRIPT, "moment, text", [source], asked["print"])
+    yield rows.table("days", SCRIPT, "first year, last year, FNV-1a of 64 bits over a line for each day of twelve months of 31 days", [
+        source, "A line is the date, its moment and that moment printed, or none in place of both.",
+    ], ((first, last, f"{fnv(''.join(line for year in range(first, last + 1) for line in day_lines(year))):016x}") for first, last in YEARS))
 
 
 if __name__ == "__main__":
-    main()
+    rows.write(tables())
