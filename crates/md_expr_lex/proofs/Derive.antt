@@ -20,9 +20,6 @@ pub record Leaves (text : List ℕ) (front : List Token) (rest : List ℕ) : Typ
   pub whole : (ts : List Token) → Lexes rest ts → Lexes text (front ++ ts)
   pub only : (ts : List Token) → Lexes text ts → (more : List Token) × (ts ≡ front ++ more) × Lexes rest more
 
-pub at_start : (text : List ℕ) → Leaves text [] text
-at_start text = record { whole = λ ts l. l; only = λ ts l. (ts, refl, l) }
-
 past_blank : {text : List ℕ} {ts : List Token} → Lexes text ts → (b : ℕ) (bs : List ℕ) → text ≡ b ∷ bs → is_blank b ≡ true → Lexes bs ts
 past_blank over b bs p h = cc
 past_blank (blank {c = b'} {text} {ts} e l) b bs p h = let q : text ≡ bs = cc in subst (λ t. Lexes t ts) q l

@@ -13,7 +13,6 @@ use Rattle.md_expr_tree.specs.declared.tree.Expr.TheFolds.{fold-Expr, fold-roll-
 use Rattle.md_expr_tree.specs.declared.token.Token.{Token}
 use Rattle.md_expr_tree.specs.WellMade.{is_well_made_test, is_chain, well_made_step, is_well_made}
 use Rattle.md_expr_tree.specs.Grammar.{number, time, IsComparison, compare, present, range, words, bound, all_of, any_of, IsUnit, comparison, group, not_group, IsAll, last_unit, and, IsAny, last_all, or, IsExpression, expression}
-use Rattle.md_expr_tree.specs.Reads.{Reads}
 
 well-Test : (t : Test) → is_well_made (expr.Test t) ≡ is_well_made_test t
 unfolding is_well_made
@@ -87,6 +86,3 @@ mutual
 
 pub expression_well : (ts : List Token) (e : Expr) → IsExpression ts e → is_well_made e ≡ true
 expression_well ts _ (expression {es = es} a) = any_of_well es (any_well a)
-
-pub reading_well : (text : List ℕ) (e : Expr) → Reads text e → is_well_made e ≡ true
-reading_well text e r = expression_well r.tokens e r.reads

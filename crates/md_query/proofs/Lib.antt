@@ -1,3 +1,2 @@
 pub mod Hits
 pub mod Keys
-pub mod Few
