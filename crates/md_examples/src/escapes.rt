@@ -52,7 +52,7 @@ fn push_escaped<'a>(text: &'a [u8], bytes: &mut Vec<u8>) -> Result<Option<&'a [u
 }
 
 fn byte_of(high: u8, low: u8) -> Option<u8> {
-    Some(digit_of(high)? * 16 + digit_of(low)?)
+    Some((digit_of(high)? << 4) | digit_of(low)?)
 }
 
 fn digit_of(digit: u8) -> Option<u8> {

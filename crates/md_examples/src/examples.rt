@@ -3,6 +3,7 @@ mod archive;
 mod comparing;
 mod example;
 mod fault;
+mod files;
 mod header;
 mod listing;
 mod running;

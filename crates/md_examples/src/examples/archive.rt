@@ -97,6 +97,11 @@ impl Section {
         Fault::Line(self.number, what)
     }
 
+    /// Whether a name follows its kind.
+    pub fn has_name(&self) -> bool {
+        !self.name.is_empty()
+    }
+
     /// The content.
     pub fn bytes(&self, alloc: Global) -> Result<Vec<u8>, Fault> {
         self.read(alloc, self.content.as_str())

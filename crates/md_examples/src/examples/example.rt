@@ -1,15 +1,10 @@
 // An example: what the program is given, and what is wanted of it.
-use crate::escapes::turns_of;
 use crate::examples::archive::{Archive, Section};
 use crate::examples::comparing::Printed;
 use crate::examples::fault::Fault;
-use crate::examples::header::{FileSetting, Settings};
-use md_source::Entry;
-use md_value::{Items, Path, PathError};
-use std::alloc::{AllocError, Global};
-
-/// A file of the tree.
-pub type File = (Entry, Items<u8>);
+use crate::examples::files::{File, file_of, finish, push_numbered};
+use crate::examples::header::Settings;
+use std::alloc::Global;
 
 /// An example.
 #[derive(Debug, Drop)]
@@ -36,7 +31,7 @@ impl Example {
     /// The example of a file's text.
     pub fn read(alloc: Global, text: &str) -> Result<Example, Fault> {
         let archive = Archive::read(alloc, text)?;
-        let settings = Settings::read(alloc, &archive.header)?;
+        let mut settings = Settings::read(alloc, &archive.header)?;
         let mut parts = Parts::new();
         let mut files = Vec::new(alloc);
         for section in &archive.sections {
@@ -46,11 +41,7 @@ impl Example {
                 _ => parts.set(alloc, section)?,
             }
         }
-        files.sort_unstable_by(|(entry, _), (other, _)| {
-            entry.path.as_str().cmp(other.path.as_str())
-        });
-        check_paths(&settings.changed, &files)?;
-        check_paths(&settings.sizes, &files)?;
+        finish(alloc, &mut files, &mut settings)?;
         parts.into_example(alloc, settings, files)
     }
 }
@@ -68,6 +59,9 @@ impl Parts {
 
     // Takes what a section says.
     fn set(&mut self, alloc: Global, section: &Section) -> Result<(), Fault> {
+        if section.has_name() {
+            return Err(section.fault("no such section, or a name where none stands"));
+        }
         match section.kind.as_str() {
             "words" => set_once(&mut self.words, section, section.lines(alloc)?),
             "script" => set_once(&mut self.script, section, section.bytes(alloc)?),
@@ -84,18 +78,25 @@ impl Parts {
         settings: Settings,
         files: Vec<File>,
     ) -> Result<Example, Fault> {
-        let Some(words) = self.words else {
+        let Parts {
+            words,
+            script,
+            out,
+            err,
+            status,
+        } = self;
+        let Some(words) = words else {
             return Err(Fault::Line(1, "the section `words` is missing"));
         };
         Ok(Example {
             settings,
             words,
             files,
-            script: self.script.unwrap_or(Vec::new(alloc)),
+            script: script.unwrap_or(Vec::new(alloc)),
             wanted: Printed {
-                status: self.status.unwrap_or(0),
-                out: self.out.unwrap_or(Vec::new(alloc)),
-                err: self.err.unwrap_or(Vec::new(alloc)),
+                status: status.unwrap_or(0),
+                out: out.unwrap_or(Vec::new(alloc)),
+                err: err.unwrap_or(Vec::new(alloc)),
             },
         })
     }
@@ -118,77 +119,4 @@ fn status_of(alloc: Global, section: &Section) -> Result<u8, Fault> {
         },
         Err(_) => Err(section.fault("not a status")),
     }
-}
-
-fn file_of(alloc: Global, section: &Section, settings: &Settings) -> Result<File, Fault> {
-    let name = section.name(alloc)?;
-    file_at(alloc, section, settings, &name)
-}
-
-// The file of this path with a section's content.
-fn file_at(
-    alloc: Global,
-    section: &Section,
-    settings: &Settings,
-    name: &str,
-) -> Result<File, Fault> {
-    let path = match Path::read(alloc, name) {
-        Ok(path) => path,
-        Err(PathError::Bad) => return Err(section.fault("not a path")),
-        Err(PathError::Memory) => return Err(Fault::from(AllocError)),
-    };
-    let content = section.bytes(alloc)?;
-    let size = set_for(&settings.sizes, &path).unwrap_or(content.len() as u64);
-    let changed = set_for(&settings.changed, &path).unwrap_or(settings.clock);
-    let entry = Entry {
-        path,
-        size,
-        changed,
-    };
-    Ok((entry, Items::from_vec(content)))
-}
-
-// Adds the files of a section `files FIRST..LAST PATH`, in whose path `#` is the file's number.
-fn push_numbered(
-    alloc: Global,
-    section: &Section,
-    settings: &Settings,
-    files: &mut Vec<File>,
-) -> Result<(), Fault> {
-    let name = section.name(alloc)?;
-    let Some((numbers, path)) = name.split_once(' ') else {
-        return Err(section.fault("no path"));
-    };
-    let Some((first, last)) = turns_of(numbers.as_bytes()) else {
-        return Err(section.fault("not numbers of files"));
-    };
-    let Some((before, after)) = path.split_once('#') else {
-        return Err(section.fault("no `#` in the path"));
-    };
-    for number in first..=last {
-        let path = format!(in alloc; "{before}{number}{after}")?;
-        files.push(file_at(alloc, section, settings, &path)?)?;
-    }
-    Ok(())
-}
-
-// What the settings say of the file of a path; the last one counts.
-fn set_for<T: Copy>(settings: &[FileSetting<T>], path: &Path) -> Option<T> {
-    let mut value = None;
-    for setting in settings {
-        if setting.path == *path {
-            value = Some(setting.value);
-        }
-    }
-    value
-}
-
-// That each setting is of a file that is there.
-fn check_paths<T>(settings: &[FileSetting<T>], files: &[File]) -> Result<(), Fault> {
-    for setting in settings {
-        if !files.iter().any(|(entry, _)| entry.path == setting.path) {
-            return Err(Fault::Line(setting.line, "no file has this path"));
-        }
-    }
-    Ok(())
 }

@@ -1,4 +1,5 @@
 // Why an example is not run.
+use md_value::PathError;
 use std::alloc::{AllocError, AllocFailed};
 use std::{fmt, io};
 
@@ -7,7 +8,7 @@ use std::{fmt, io};
 pub enum Fault {
     /// Its file is not well formed at this line.
     Line(u64, &'static str),
-    /// Two of its files have one path, or one has the root's.
+    /// Two of its files have one path, or one has the root's, or none can have it.
     Tree,
     /// Its file could not be read, is not UTF-8, or memory ran out.
     Io(io::Error),
@@ -19,6 +20,15 @@ impl fmt::Display for Fault {
             Fault::Line(line, what) => write!(f, "line {line}: {what}"),
             Fault::Tree => write!(f, "no tree has these files"),
             Fault::Io(error) => write!(f, "{error}"),
+        }
+    }
+}
+
+impl From<PathError> for Fault {
+    fn from(error: PathError) -> Fault {
+        match error {
+            PathError::Bad => Fault::Tree,
+            PathError::Memory => Fault::from(AllocError),
         }
     }
 }

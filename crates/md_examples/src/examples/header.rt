@@ -99,7 +99,11 @@ impl Settings {
             .unwrap_or((line.text.as_str(), ""));
         match name {
             "clock" => self.clock = moment_of(line, value)?,
-            "folder" => self.folders.push(path_of(alloc, line, value)?)?,
+            "folder" => {
+                let folder = path_of(alloc, line, value)?;
+                push_folders(alloc, folder.as_str(), &mut self.folders)?;
+                self.folders.push(folder)?;
+            }
             "changed" => {
                 let (moment, path) = line.two_words(value)?;
                 let moment = moment_of(line, moment)?;
@@ -160,6 +164,21 @@ impl Fails {
         }
         Ok(())
     }
+}
+
+/// Adds the folders that a path stands in. Where one is there already, so are those that it stands in.
+pub fn push_folders(alloc: Global, path: &str, folders: &mut Vec<Path>) -> Result<(), Fault> {
+    let mut rest = path;
+    for _ in 0..path.len() {
+        match rest.rsplit_once('/') {
+            Some((folder, _)) if !folders.iter().any(|known| known.as_str() == folder) => {
+                folders.push(Path::read(alloc, folder)?)?;
+                rest = folder;
+            }
+            _ => break,
+        }
+    }
+    Ok(())
 }
 
 fn setting_of_file<T: Drop>(
