@@ -104,7 +104,7 @@ fn ran<R: Threads + Sync>(
     let mut clock = MemoryClock::new(settings.clock.clamp(LOW, HIGH), fails.clock);
     let mut out = MemorySink::new(alloc, settings.out_takes.max(1), fails.out);
     let mut err = MemorySink::new(alloc, settings.err_takes.max(1), fails.err);
-    let outcome = run(
+    let status = status_of(
         rt,
         alloc,
         &words,
@@ -115,9 +115,23 @@ fn ran<R: Threads + Sync>(
         &mut err,
     );
     let got = Printed {
-        status: outcome.status.code(),
+        status: status.code(),
         out: Vec::from_slice(alloc, out.taken())?,
         err: Vec::from_slice(alloc, err.taken())?,
     };
     Ok((got, wanted))
+}
+
+// The status of a run of the top call. What its contract says is no concern of the caller's.
+fn status_of<R: Threads + Sync>(
+    rt: &R,
+    alloc: Global,
+    words: &[String],
+    tree: &mut MemoryTree,
+    source: &mut MemorySource,
+    clock: &mut MemoryClock,
+    out: &mut MemorySink,
+    err: &mut MemorySink,
+) -> Status {
+    run(rt, alloc, words, tree, source, clock, out, err).status
 }
