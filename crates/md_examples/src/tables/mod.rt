@@ -58,8 +58,8 @@ fn complaint(alloc: Global, call: Call, line: &str) -> Result<Option<String>, Al
     if asked.answer.as_str() == wanted {
         return Ok(None);
     }
-    let wanted = escape(alloc, wanted)?;
-    let answer = escape(alloc, &asked.answer)?;
+    let wanted = escape(alloc, wanted.as_bytes())?;
+    let answer = escape(alloc, asked.answer.as_bytes())?;
     Ok(Some(format!(in alloc; "wanted {wanted} got {answer}")?))
 }
 
