@@ -7,7 +7,7 @@ use Rattle.md_time.specs.Moments.{is_moment, in_range, iso_moment, read_as}
 use Rattle.md_value.specs.Values.{IsMoment}
 use Rattle.md_value.specs.declared.fault.Fault.{Fault}
 use Rattle.md_value.specs.declared.value.Kind.TheVariants as kind
-use Rattle.md_value.specs.declared.value.TheConstants.{LOW, HIGH}
+use Rattle.md_value.specs.Values.{first_moment, last_moment}
 use Rattle.md_value.specs.declared.value.Value.{Value}
 use Rattle.md_value.specs.declared.value.Value.TheVariants as value
 use Rattle.imp_rules.specs.Values.{moment_or, date_value}
@@ -17,7 +17,7 @@ at_most : (x y : ℤ) → not (int_lt y x) ≡ true → x ≤ℤ y
 at_most x y h = grind (arith, ints)
 
 moment_bounds : (z : ℤ) → is_moment z ≡ true → IsMoment z
-moment_bounds z h = let parts = and_parts (not (int_lt z LOW)) (not (int_lt HIGH z)) h in (at_most LOW z parts.0, at_most z HIGH parts.1)
+moment_bounds z h = let parts = and_parts (not (int_lt z first_moment)) (not (int_lt last_moment z)) h in (at_most first_moment z parts.0, at_most z last_moment parts.1)
 
 tested : (z m : ℤ) (b : Bool) → is_moment z ≡ b → cond b (Some z) None ≡ Some m → IsMoment m
 tested z m true is e = let same : z ≡ m = cc in subst IsMoment same (moment_bounds z is)

@@ -10,4 +10,3 @@ pub use content::{joined, push_spaced};
 pub use files::{FileValues, file_attributes};
 pub use puts::{put_content, put_text, put_value, put_values};
 pub use values::{date_value, text_value};
-

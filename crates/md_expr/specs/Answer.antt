@@ -2,17 +2,18 @@
 use Rattle.std.specs.Prelude.{◌≡◌, ℕ, ◌<◌, ◌≤◌, List, length, Result, Ok, Err, chars}
 use Rattle.md_expr_tree.specs.declared.tree.Expr.{Expr}
 use Rattle.md_expr_tree.specs.Counts.{comparisons}
+use Rattle.md_expr_tree.specs.Limits.{most_bytes, most_groups, most_comparisons}
 use Rattle.md_expr_tree.specs.Reads.{Reads, groups_of}
 use Rattle.md_expr_parse.specs.declared.read.ReadError.{ReadError}
 use Rattle.md_expr_parse.specs.declared.read.ReadError.TheVariants as error
 
 -- for a text in bytes; of want of memory it says nothing
 abbrev pub Answers : Result Expr ReadError → List ℕ → Type 0
-Answers (Ok e) text = (length text ≤ 65536) × (r : Reads (chars text) e) × (groups_of r ≤ 64) × (comparisons e ≤ 4096)
-Answers (Err error.TooLong) text = 65536 < length text
-Answers (Err error.NotExpression) text = (length text ≤ 65536) × ((e : Expr) → Reads (chars text) e → ⊥)
-Answers (Err error.TooDeep) text = (length text ≤ 65536) × (e : Expr) × (r : Reads (chars text) e) × (64 < groups_of r)
-Answers (Err error.TooMany) text = (length text ≤ 65536) × (e : Expr) × (r : Reads (chars text) e) × (groups_of r ≤ 64) × (4096 < comparisons e)
+Answers (Ok e) text = (length text ≤ most_bytes) × (r : Reads (chars text) e) × (groups_of r ≤ most_groups) × (comparisons e ≤ most_comparisons)
+Answers (Err error.TooLong) text = most_bytes < length text
+Answers (Err error.NotExpression) text = (length text ≤ most_bytes) × ((e : Expr) → Reads (chars text) e → ⊥)
+Answers (Err error.TooDeep) text = (length text ≤ most_bytes) × (e : Expr) × (r : Reads (chars text) e) × (most_groups < groups_of r)
+Answers (Err error.TooMany) text = (length text ≤ most_bytes) × (e : Expr) × (r : Reads (chars text) e) × (groups_of r ≤ most_groups) × (most_comparisons < comparisons e)
 Answers (Err error.Memory) text = Unit {0}
 
 -- any two readings of the text are of one expression, and open as many groups

@@ -6,6 +6,7 @@ use Rattle.md_expr_tree.specs.declared.token.Token.{Token}
 use Rattle.md_expr_tree.specs.declared.token.Item.{Item}
 use Rattle.md_expr_tree.specs.Classes.{is_blank}
 use Rattle.md_expr_tree.specs.Counts.{comparisons}
+use Rattle.md_expr_tree.specs.Limits.{most_bytes, most_groups, most_comparisons}
 use Rattle.md_expr_lex.specs.Find.{token_at}
 use Rattle.md_expr_parse.specs.Group.{group}
 use Rattle.md_expr_parse.specs.Machine.{run}
@@ -29,14 +30,14 @@ built is = option_map (λ e. (e, deepest 0 is)) (run false [] [] [] is)
 unfoldable pub reading : List ℕ → Option (Expr × ℕ)
 reading text = option_and_then built (option_and_then (group 0) (lex (length text) text))
 
--- within 64 groups and 4,096 comparisons
+-- within the most groups and comparisons
 unfoldable pub limited : Option (Expr × ℕ) → Result Expr ReadError
 limited None = Err error.NotExpression
-limited (Some (e, groups)) = if nat_lt 64 groups then Err error.TooDeep else (if nat_lt 4096 (comparisons e) then Err error.TooMany else Ok e)
+limited (Some (e, groups)) = if nat_lt most_groups groups then Err error.TooDeep else (if nat_lt most_comparisons (comparisons e) then Err error.TooMany else Ok e)
 
 -- what reading a text in bytes answers, unless memory runs out
 unfoldable pub outcome : List ℕ → Result Expr ReadError
-outcome text = if nat_lt 65536 (length text) then Err error.TooLong else limited (reading (chars text))
+outcome text = if nat_lt most_bytes (length text) then Err error.TooLong else limited (reading (chars text))
 
 -- the outcome is an answer, and every other answer is want of memory
 pub record IsAnswer (text : List ℕ) : Type 0 where

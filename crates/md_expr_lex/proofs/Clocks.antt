@@ -12,14 +12,14 @@ use Rattle.md_time.specs.declared.form.Form.TheVariants as form
 use Rattle.md_expr_tree.specs.declared.tree.Literal.TheVariants as literal
 use Rattle.md_expr_tree.specs.declared.token.Token.{Token}
 use Rattle.md_expr_tree.specs.declared.token.Token.TheVariants as token
-use Rattle.md_expr_tree.specs.Classes.{IsBefore}
+use Rattle.md_expr_tree.specs.Classes.{BeginsWithNo}
 use Rattle.md_expr_tree.specs.Numbers.{AreDigits, value_of, signed, most}
 use Rattle.md_expr_tree.specs.Times.{IsSign, none as no_sign, plus, minus, IsCount, none as no_count, count, IsTime, now, today, yesterday, this_week, this_month, this_year, iso}
-use Rattle.md_expr_tree.specs.Tokens.{follows_time}
+use Rattle.md_expr_tree.specs.Tokens.{may_not_follow_time}
 use Rattle.md_expr_lex.specs.declared.times.Keyword.{Keyword}
 use Rattle.md_expr_lex.specs.declared.times.Keyword.TheVariants as keyword
 use Rattle.md_expr_lex.specs.Front.{front, after}
-use Rattle.md_expr_lex.specs.Kinds.{is_inside}
+use Rattle.md_expr_lex.specs.Kinds.{is_not_closing}
 use Rattle.md_expr_lex.specs.Numbers.{whole_of}
 use Rattle.md_expr_lex.specs.Times.{sign_of, closing, counted, after_sign, count_at, keyword_of, form_of, with_count, iso_of, iso_from, iso_at, time_by, timed, worded, time_at}
 use Rattle.md_expr_lex.proofs.Fronts.{Fronted, front_sound, front_found, before, not_begun, weaken, after_sound}
@@ -45,9 +45,9 @@ whole_found negative ds are within =
     let t : nat_le (value_of ds) (most negative) ≡ true = le-leb _ _ within in
     rw (s, t) refl
 
-count_found : {spelling : List ℕ} {n : ℤ} → IsCount spelling n → (rest : List ℕ) → IsBefore follows_time rest → count_at (spelling ++ rest) ≡ Some (n, rest)
+count_found : {spelling : List ℕ} {n : ℤ} → IsCount spelling n → (rest : List ℕ) → BeginsWithNo may_not_follow_time rest → count_at (spelling ++ rest) ≡ Some (n, rest)
 count_found no_count [] h = refl
-count_found no_count (c ∷ cs) h = rw (fails follows_time c 40 h refl) refl
+count_found no_count (c ∷ cs) h = rw (fails may_not_follow_time c 40 h refl) refl
 count_found (count {sign} {ds} {negative} is are within) rest h =
     let behind : (sign ++ (ds ++ 41 ∷ [])) ++ rest ≡ sign ++ (ds ++ 41 ∷ rest) = append_assoc sign (ds ++ 41 ∷ []) rest ∙ ap (λ l. sign ++ l) (append_assoc ds (41 ∷ []) rest) in
     ap (λ l. after_sign (sign_of l)) behind
@@ -55,35 +55,35 @@ count_found (count {sign} {ds} {negative} is are within) rest h =
     ∙ ap (counted negative) (front_found is_ascii_digit ds (41 ∷ rest) are.digits refl)
     ∙ ap (option_and_then (λ n. option_map (λ rest. (n, rest)) (closing (41 ∷ rest)))) (whole_found negative ds are within)
 
-no_word : (c : ℕ) → follows_time c ≡ false → is_name_part c ≡ false
+no_word : (c : ℕ) → may_not_follow_time c ≡ false → is_name_part c ≡ false
 no_word c h = grind (arith, h)
 
-no_word_behind : {spelling : List ℕ} {n : ℤ} → IsCount spelling n → (rest : List ℕ) → IsBefore follows_time rest → IsBefore is_name_part (spelling ++ rest)
-no_word_behind no_count rest h = weaken follows_time is_name_part rest no_word h
+no_word_behind : {spelling : List ℕ} {n : ℤ} → IsCount spelling n → (rest : List ℕ) → BeginsWithNo may_not_follow_time rest → BeginsWithNo is_name_part (spelling ++ rest)
+no_word_behind no_count rest h = weaken may_not_follow_time is_name_part rest no_word h
 no_word_behind (count is are within) rest h = refl
 
-timed_found : (f : Form) (rest : List ℕ) → IsBefore follows_time rest → timed (f, rest) ≡ Some (token.Value (literal.Time f), rest)
-timed_found f rest h = rw (not_begun follows_time rest h) refl
+timed_found : (f : Form) (rest : List ℕ) → BeginsWithNo may_not_follow_time rest → timed (f, rest) ≡ Some (token.Value (literal.Time f), rest)
+timed_found f rest h = rw (not_begun may_not_follow_time rest h) refl
 
-pub counted_found : (w : List ℕ) (k : Keyword) (make : ℤ → Form) → list_all is_name_part w ≡ true → keyword_of w ≡ k → ((rest : List ℕ) → time_by k rest ≡ with_count k rest) → ((n : ℤ) → form_of k n ≡ Some (make n)) → {spelling : List ℕ} {n : ℤ} → IsCount spelling n → (rest : List ℕ) → IsBefore follows_time rest → worded (front is_name_part (w ++ (spelling ++ rest))) ≡ Some (token.Value (literal.Time (make n)), rest)
+pub counted_found : (w : List ℕ) (k : Keyword) (make : ℤ → Form) → list_all is_name_part w ≡ true → keyword_of w ≡ k → ((rest : List ℕ) → time_by k rest ≡ with_count k rest) → ((n : ℤ) → form_of k n ≡ Some (make n)) → {spelling : List ℕ} {n : ℤ} → IsCount spelling n → (rest : List ℕ) → BeginsWithNo may_not_follow_time rest → worded (front is_name_part (w ++ (spelling ++ rest))) ≡ Some (token.Value (literal.Time (make n)), rest)
 counted_found w k make all is by makes {spelling} {n} c rest h =
     ap worded (front_found is_name_part w (spelling ++ rest) all (no_word_behind c rest h))
     ∙ ap (λ k. option_and_then timed (time_by k (spelling ++ rest))) is
     ∙ ap (option_and_then timed) (by (spelling ++ rest) ∙ ap (option_and_then (λ x. option_map (λ f. (f, x.1)) (form_of k x.0))) (count_found c rest h) ∙ ap (option_map (λ f. (f, rest))) (makes n))
     ∙ timed_found (make n) rest h
 
-pub iso_found : (text rest : List ℕ) → is_iso text ≡ true → IsBefore follows_time rest → worded (front is_name_part (codes "iso" ++ 40 ∷ ((text ++ 41 ∷ []) ++ rest))) ≡ Some (token.Value (literal.Time (form.Iso text)), rest)
+pub iso_found : (text rest : List ℕ) → is_iso text ≡ true → BeginsWithNo may_not_follow_time rest → worded (front is_name_part (codes "iso" ++ 40 ∷ ((text ++ 41 ∷ []) ++ rest))) ≡ Some (token.Value (literal.Time (form.Iso text)), rest)
 iso_found text rest is h =
     let found : iso_of text ≡ Some text = rw (iso_ascii text is, is) refl in
     ap (λ l. worded (front is_name_part (codes "iso" ++ 40 ∷ l))) (append_assoc text (41 ∷ []) rest)
     ∙ ap worded (front_found is_name_part (codes "iso") (40 ∷ (text ++ 41 ∷ rest)) refl refl)
-    ∙ ap (λ x. option_and_then timed (iso_from x)) (front_found is_inside text (41 ∷ rest) (iso_inside text is) refl)
+    ∙ ap (λ x. option_and_then timed (iso_from x)) (front_found is_not_closing text (41 ∷ rest) (iso_inside text is) refl)
     ∙ ap (λ o. option_and_then timed (option_and_then (λ iso. option_map (λ rest. (form.Iso iso, rest)) (closing (41 ∷ rest))) o)) found
     ∙ timed_found (form.Iso text) rest h
 
-pub yesterday_found : (rest : List ℕ) → IsBefore follows_time rest → worded (front is_name_part (codes "yesterday" ++ rest)) ≡ Some (token.Value (literal.Time (form.Day (negsuc 0))), rest)
+pub yesterday_found : (rest : List ℕ) → BeginsWithNo may_not_follow_time rest → worded (front is_name_part (codes "yesterday" ++ rest)) ≡ Some (token.Value (literal.Time (form.Day (negsuc 0))), rest)
 yesterday_found rest h =
-    ap worded (front_found is_name_part (codes "yesterday") rest refl (weaken follows_time is_name_part rest no_word h)) ∙ timed_found (form.Day (negsuc 0)) rest h
+    ap worded (front_found is_name_part (codes "yesterday") rest refl (weaken may_not_follow_time is_name_part rest no_word h)) ∙ timed_found (form.Day (negsuc 0)) rest h
 
 -- ---- stand
 
@@ -182,8 +182,8 @@ iso_sound : (text rest : List ℕ) (x : Form × List ℕ) → text ≡ codes "is
 iso_sound text [] x t e = cc
 iso_sound text (c ∷ cs) x t e =
     let h = chosen (c == 40) _ x e in
-    let f = front is_inside cs in
-    let there = front_sound is_inside cs in
+    let f = front is_not_closing cs in
+    let there = front_sound is_not_closing cs in
     let y = bound (λ iso. option_map (λ rest. (form.Iso iso, rest)) (closing f.1)) (iso_of f.0) x h.1 in
     let m = mapped (λ (rest : List ℕ). (form.Iso y.0, rest)) (closing f.1) x y.2 in
     let close = closing_sound f.1 m.0 m.1 in
@@ -217,7 +217,7 @@ pub record TimeStands (text : List ℕ) (x : Token × List ℕ) : Type 0 where
   pub form : Form
   pub whole : text ≡ spelling ++ x.1
   pub is : IsTime (36 ∷ spelling) form
-  pub over : IsBefore follows_time x.1
+  pub over : BeginsWithNo may_not_follow_time x.1
   pub token : token.Value (literal.Time form) ≡ x.0
 
 pub time_sound : (text : List ℕ) (x : Token × List ℕ) → time_at text ≡ Some x → TimeStands text x
@@ -235,6 +235,6 @@ time_sound text x e =
       form = y.0.0;
       whole = start ∙ ap (λ l. codes "time." ++ l) (c.whole ∙ ap (λ l. c.spelling ++ l) after);
       is = c.is;
-      over = subst (λ l. IsBefore follows_time l) after (before follows_time y.0.1 o.0);
+      over = subst (λ l. BeginsWithNo may_not_follow_time l) after (before may_not_follow_time y.0.1 o.0);
       token = ap (λ z. z.0) p;
     }

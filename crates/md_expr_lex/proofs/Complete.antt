@@ -6,7 +6,7 @@ use Rattle.md_value.specs.Name.{is_name, is_name_start, is_name_part}
 use Rattle.md_time.specs.declared.form.Form.TheVariants as form
 use Rattle.md_expr_tree.specs.declared.token.Token.{Token}
 use Rattle.md_expr_tree.specs.declared.token.Token.TheVariants as token
-use Rattle.md_expr_tree.specs.Classes.{IsBefore}
+use Rattle.md_expr_tree.specs.Classes.{BeginsWithNo}
 use Rattle.md_expr_tree.specs.Numbers.{none as no_minus, minus, number as is_number, AreDigits}
 use Rattle.md_expr_tree.specs.Times.{now, today, yesterday, this_week, this_month, this_year, iso}
 use Rattle.md_expr_tree.specs.Tokens.{Stands, name, string, number, time, equal, short_equal, not_equal, less_equal, less, greater_equal, greater, not, and, or, star, open_group, close_group, comma}
@@ -24,7 +24,7 @@ use Rattle.md_expr_lex.proofs.Tells.{letter_kind, quote_kind, digit_kind}
 start_is_part : (c : ℕ) → is_name_start c ≡ true → is_name_part c ≡ true
 start_is_part c h = grind (arith, h)
 
-name_found : (n rest : List ℕ) → is_name n ≡ true → IsBefore is_name_part rest → token_at (n ++ rest) ≡ Some (token.Name n, rest)
+name_found : (n rest : List ℕ) → is_name n ≡ true → BeginsWithNo is_name_part rest → token_at (n ++ rest) ≡ Some (token.Name n, rest)
 name_found [] rest e h = cc
 name_found (c ∷ cs) rest e h =
     let p = both (is_name_start c) (list_all is_name_part cs) e in
@@ -36,7 +36,7 @@ unsigned_found : (text : List ℕ) (more rest : List ℕ) → AreDigits text →
 unsigned_found [] more rest are = absurd (omega (arith, are.some))
 unsigned_found (d ∷ ds) more rest are = ap (λ k. token_by k d ((ds ++ more) ++ rest)) (digit_kind d (both (is_ascii_digit d) (list_all is_ascii_digit ds) are.digits).0)
 
-short : (k : ℕ) (long t : Token) (rest : List ℕ) → IsBefore (λ c. c == k) rest → either k long t rest ≡ Some (t, rest)
+short : (k : ℕ) (long t : Token) (rest : List ℕ) → BeginsWithNo (λ c. c == k) rest → either k long t rest ≡ Some (t, rest)
 short k long t [] h = refl
 short k long t (c ∷ cs) h = rw h refl
 

@@ -9,9 +9,9 @@ use Rattle.std.proofs.Math.Nat.{pow-succ', mul_assoc, one-le-pow}
 use Rattle.md_expr_tree.specs.declared.tree.Literal.TheVariants as literal
 use Rattle.md_expr_tree.specs.declared.token.Token.{Token}
 use Rattle.md_expr_tree.specs.declared.token.Token.TheVariants as token
-use Rattle.md_expr_tree.specs.Classes.{IsBefore}
+use Rattle.md_expr_tree.specs.Classes.{BeginsWithNo}
 use Rattle.md_expr_tree.specs.Numbers.{AreDigits, value_after, value_of, signed, most, IsFraction, none, point}
-use Rattle.md_expr_tree.specs.Tokens.{follows_number}
+use Rattle.md_expr_tree.specs.Tokens.{may_not_follow_number}
 use Rattle.md_expr_lex.specs.Front.{front, begins}
 use Rattle.md_expr_lex.specs.Numbers.{decimals_of, fraction_at, ended, number_from, number_at}
 use Rattle.md_expr_lex.proofs.Fronts.{Fronted, front_sound, front_found, before, not_begun, weaken}
@@ -36,7 +36,7 @@ below (suc n) before limit (d ∷ ds) l a h =
     let e : limit * 10 ^ suc n ≡ limit * 10 * 10 ^ n = ap (λ k. limit * k) (pow-succ' 10 n) ∙ sym (mul_assoc limit 10 (10 ^ n)) in
     rw e there
 
-no_digit : (c : ℕ) → follows_number c ≡ false → is_ascii_digit c ≡ false
+no_digit : (c : ℕ) → may_not_follow_number c ≡ false → is_ascii_digit c ≡ false
 no_digit c h = grind (arith, h)
 
 decimals_found : (ds rest : List ℕ) → AreDigits ds → length ds ≤ 9 → decimals_of (ds, rest) ≡ Some (value_of ds * 10 ^ (9 - length ds), rest)
@@ -47,21 +47,21 @@ decimals_found ds rest are l =
     let t : nat_le (length ds) 9 ≡ true = le-leb _ _ l in
     rw (v, s, t) refl
 
-fraction_found : {fraction : List ℕ} {parts : ℕ} → IsFraction fraction parts → (rest : List ℕ) → IsBefore follows_number rest → fraction_at (fraction ++ rest) ≡ Some (parts, rest)
+fraction_found : {fraction : List ℕ} {parts : ℕ} → IsFraction fraction parts → (rest : List ℕ) → BeginsWithNo may_not_follow_number rest → fraction_at (fraction ++ rest) ≡ Some (parts, rest)
 fraction_found none [] h = refl
-fraction_found none (c ∷ cs) h = rw (fails follows_number c 46 h refl) refl
+fraction_found none (c ∷ cs) h = rw (fails may_not_follow_number c 46 h refl) refl
 fraction_found (point {ds} are l) rest h =
-    ap decimals_of (front_found is_ascii_digit ds rest are.digits (weaken follows_number is_ascii_digit rest no_digit h)) ∙ decimals_found ds rest are l
+    ap decimals_of (front_found is_ascii_digit ds rest are.digits (weaken may_not_follow_number is_ascii_digit rest no_digit h)) ∙ decimals_found ds rest are l
 
-no_digit_behind : {fraction : List ℕ} {parts : ℕ} → IsFraction fraction parts → (rest : List ℕ) → IsBefore follows_number rest → IsBefore is_ascii_digit (fraction ++ rest)
-no_digit_behind none rest h = weaken follows_number is_ascii_digit rest no_digit h
+no_digit_behind : {fraction : List ℕ} {parts : ℕ} → IsFraction fraction parts → (rest : List ℕ) → BeginsWithNo may_not_follow_number rest → BeginsWithNo is_ascii_digit (fraction ++ rest)
+no_digit_behind none rest h = weaken may_not_follow_number is_ascii_digit rest no_digit h
 no_digit_behind (point are l) rest h = refl
 
-pub number_found : {whole fraction : List ℕ} {parts : ℕ} (negative : Bool) → AreDigits whole → IsFraction fraction parts → value_of whole * 10 ^ 9 + parts ≤ most negative * 10 ^ 9 → (rest : List ℕ) → IsBefore follows_number rest → number_at negative ((whole ++ fraction) ++ rest) ≡ Some (token.Value (literal.Number (signed negative (value_of whole * 10 ^ 9 + parts))), rest)
+pub number_found : {whole fraction : List ℕ} {parts : ℕ} (negative : Bool) → AreDigits whole → IsFraction fraction parts → value_of whole * 10 ^ 9 + parts ≤ most negative * 10 ^ 9 → (rest : List ℕ) → BeginsWithNo may_not_follow_number rest → number_at negative ((whole ++ fraction) ++ rest) ≡ Some (token.Value (literal.Number (signed negative (value_of whole * 10 ^ 9 + parts))), rest)
 number_found {whole} {fraction} {parts} negative are is within rest h =
     let s : nat_le 1 (length whole) ≡ true = le-leb _ _ (omega (arith, are.some)) in
     let t : nat_le (value_of whole * 10 ^ 9 + parts) (most negative * 10 ^ 9) ≡ true = le-leb _ _ within in
-    let n : begins follows_number rest ≡ false = not_begun follows_number rest h in
+    let n : begins may_not_follow_number rest ≡ false = not_begun may_not_follow_number rest h in
     let last : ended negative whole (parts, rest) ≡ Some (token.Value (literal.Number (signed negative (value_of whole * 10 ^ 9 + parts))), rest) = rw (n, s, t) refl in
     ap (number_at negative) (append_assoc whole fraction rest)
     ∙ ap (number_from negative) (front_found is_ascii_digit whole (fraction ++ rest) are.digits (no_digit_behind is rest h))
@@ -115,7 +115,7 @@ pub record Numbered (negative : Bool) (text : List ℕ) (x : Token × List ℕ) 
   pub is : IsFraction fraction parts
   pub within : value_of whole * 10 ^ 9 + parts ≤ most negative * 10 ^ 9
   pub text_is : text ≡ (whole ++ fraction) ++ x.1
-  pub over : IsBefore follows_number x.1
+  pub over : BeginsWithNo may_not_follow_number x.1
   pub token : token.Value (literal.Number (signed negative (value_of whole * 10 ^ 9 + parts))) ≡ x.0
 
 number_from_sound : (negative : Bool) (text : List ℕ) (f : List ℕ × List ℕ) (x : Token × List ℕ) → Fronted is_ascii_digit text f → number_from negative f ≡ Some x → Numbered negative text x
@@ -137,7 +137,7 @@ number_from_sound negative text f x there e =
       is = d.is;
       within = leb-true _ _ w.0;
       text_is = t ∙ ap (λ l. (f.0 ++ d.fraction) ++ l) after;
-      over = subst (λ l. IsBefore follows_number l) after (before follows_number y.0.1 o.0);
+      over = subst (λ l. BeginsWithNo may_not_follow_number l) after (before may_not_follow_number y.0.1 o.0);
       token = ap (λ k. token.Value (literal.Number k)) n ∙ ap (λ z. z.0) m.2;
     }
 

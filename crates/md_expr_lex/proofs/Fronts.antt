@@ -3,7 +3,7 @@ use Rattle.std.proofs.Common.{◌≡◌, ℕ, Bool, true, false, ◌+◌, cond, 
 use Rattle.std.specs.List.{take_while, prefix_len, list_all}
 use Rattle.std.proofs.lemmas.Bool.{eqb-true}
 use Rattle.std.proofs.lemmas.List.Folds.{length-prefix_len}
-use Rattle.md_expr_tree.specs.Classes.{IsBefore}
+use Rattle.md_expr_tree.specs.Classes.{BeginsWithNo}
 use Rattle.md_expr_lex.specs.Front.{front, begins, after}
 use Rattle.md_expr_lex.proofs.Options.{both, chosen, same}
 
@@ -17,7 +17,7 @@ one_more n c cs = let e : 1 + n ≡ suc n = omega arith in ap (λ k. split k (c 
 pub record Fronted (class : ℕ → Bool) (text : List ℕ) (x : List ℕ × List ℕ) : Type 0 where
   pub whole : text ≡ x.0 ++ x.1
   pub all : list_all class x.0 ≡ true
-  pub over : IsBefore class x.1
+  pub over : BeginsWithNo class x.1
 
 module _ (class : ℕ → Bool) where
   front_parts : (text : List ℕ) → split (prefix_len class text) text ≡ front class text
@@ -39,27 +39,27 @@ module _ (class : ℕ → Bool) where
       go true h there = record { whole = ap (λ l. c ∷ l) there.whole; all = rw (h, there.all) refl; over = there.over }
       go false h there = record { whole = refl; all = refl; over = h }
 
-  none_found : (rest : List ℕ) → IsBefore class rest → front class rest ≡ ([], rest)
+  none_found : (rest : List ℕ) → BeginsWithNo class rest → front class rest ≡ ([], rest)
   none_found [] h = refl
   none_found (c ∷ cs) h = rw h refl
 
-  pub front_found : (w rest : List ℕ) → list_all class w ≡ true → IsBefore class rest → front class (w ++ rest) ≡ (w, rest)
+  pub front_found : (w rest : List ℕ) → list_all class w ≡ true → BeginsWithNo class rest → front class (w ++ rest) ≡ (w, rest)
   front_found [] rest a h = none_found rest h
   front_found (c ∷ w) rest a h =
       let p = both (class c) (list_all class w) a in
       let there = front_found w rest p.1 h in
       rw (p.0, there) refl
 
-  pub not_begun : (rest : List ℕ) → IsBefore class rest → begins class rest ≡ false
+  pub not_begun : (rest : List ℕ) → BeginsWithNo class rest → begins class rest ≡ false
   not_begun [] h = refl
   not_begun (c ∷ cs) h = h
 
-  pub before : (rest : List ℕ) → begins class rest ≡ false → IsBefore class rest
+  pub before : (rest : List ℕ) → begins class rest ≡ false → BeginsWithNo class rest
   before [] h = tt
   before (c ∷ cs) h = h
 
 -- a smaller class
-pub weaken : (p q : ℕ → Bool) (rest : List ℕ) → ((c : ℕ) → p c ≡ false → q c ≡ false) → IsBefore p rest → IsBefore q rest
+pub weaken : (p q : ℕ → Bool) (rest : List ℕ) → ((c : ℕ) → p c ≡ false → q c ≡ false) → BeginsWithNo p rest → BeginsWithNo q rest
 weaken p q [] f h = tt
 weaken p q (c ∷ cs) f h = f c h
 

@@ -6,7 +6,7 @@ use Rattle.std.proofs.lemmas.Bool.{eqb-true}
 use Rattle.std.proofs.lemmas.List.{take-append-drop}
 use Rattle.std.proofs.lemmas.List.Folds.{list_all-append, drop_split}
 use Rattle.md_time.specs.IsoTexts.{stands_for, looks_like, is_date_text, is_time_text, is_plain_distance, is_colon_distance, is_zone_text, is_full_text, is_iso}
-use Rattle.md_expr_lex.specs.Kinds.{is_inside}
+use Rattle.md_expr_lex.specs.Kinds.{is_not_closing}
 use Rattle.md_expr_lex.proofs.Options.{both}
 
 one_of : (a b : Bool) (P : Type 0) → (a || b) ≡ true → (a ≡ true → P) → (b ≡ true → P) → P
@@ -74,11 +74,11 @@ module _ (class : ℕ → Bool) (digit : (c : ℕ) → is_ascii_digit c ≡ true
 ascii_digit : (c : ℕ) → is_ascii_digit c ≡ true → is_ascii c ≡ true
 ascii_digit c h = grind (arith, h)
 
-inside_digit : (c : ℕ) → is_ascii_digit c ≡ true → is_inside c ≡ true
+inside_digit : (c : ℕ) → is_ascii_digit c ≡ true → is_not_closing c ≡ true
 inside_digit c h = grind (arith, h)
 
 pub iso_ascii : (text : List ℕ) → is_iso text ≡ true → list_all is_ascii text ≡ true
 iso_ascii text e = iso_all is_ascii ascii_digit refl refl refl refl refl refl text e
 
-pub iso_inside : (text : List ℕ) → is_iso text ≡ true → list_all is_inside text ≡ true
-iso_inside text e = iso_all is_inside inside_digit refl refl refl refl refl refl text e
+pub iso_inside : (text : List ℕ) → is_iso text ≡ true → list_all is_not_closing text ≡ true
+iso_inside text e = iso_all is_not_closing inside_digit refl refl refl refl refl refl text e

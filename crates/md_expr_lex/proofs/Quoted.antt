@@ -6,7 +6,7 @@ use Rattle.md_value.specs.Name.{is_name_part}
 use Rattle.md_expr_tree.specs.declared.tree.Literal.TheVariants as literal
 use Rattle.md_expr_tree.specs.declared.token.Token.{Token}
 use Rattle.md_expr_tree.specs.declared.token.Token.TheVariants as token
-use Rattle.md_expr_tree.specs.Classes.{is_escapable, is_quote, IsBefore}
+use Rattle.md_expr_tree.specs.Classes.{is_escapable, is_quote, BeginsWithNo}
 use Rattle.md_expr_tree.specs.Tokens.{IsBody, done, plain, escaped, wildcard, AreModifiers, none, c, d, cd, dc}
 use Rattle.md_expr_lex.specs.Strings.{body_at, Body, with_front, words, modified, after_c, after_d}
 use Rattle.md_expr_lex.proofs.Fronts.{before}
@@ -21,11 +21,11 @@ body_found {q} h (plain e f g r) rest = rw (e, f, g, body_found h r rest) refl
 body_found {q} h (escaped e r) rest = rw (not_escape q h, e, body_found h r rest) refl
 body_found {q} h (wildcard r) rest = rw (not_wildcard q h, body_found h r rest) refl
 
-unmodified : (pieces : List (List ℕ)) (fold marks : Bool) (rest : List ℕ) → IsBefore is_name_part rest → words pieces fold marks rest ≡ Some (token.Value (literal.Words pieces fold marks), rest)
+unmodified : (pieces : List (List ℕ)) (fold marks : Bool) (rest : List ℕ) → BeginsWithNo is_name_part rest → words pieces fold marks rest ≡ Some (token.Value (literal.Words pieces fold marks), rest)
 unmodified pieces fold marks [] h = refl
 unmodified pieces fold marks (y ∷ ys) h = rw h refl
 
-pub modifiers_found : {m : List ℕ} {fold marks : Bool} (pieces : List (List ℕ)) → AreModifiers m fold marks → (rest : List ℕ) → IsBefore is_name_part rest → modified pieces (m ++ rest) ≡ Some (token.Value (literal.Words pieces fold marks), rest)
+pub modifiers_found : {m : List ℕ} {fold marks : Bool} (pieces : List (List ℕ)) → AreModifiers m fold marks → (rest : List ℕ) → BeginsWithNo is_name_part rest → modified pieces (m ++ rest) ≡ Some (token.Value (literal.Words pieces fold marks), rest)
 modifiers_found pieces none [] h = refl
 modifiers_found pieces none (y ∷ ys) h = rw (fails is_name_part y 99 h refl, fails is_name_part y 100 h refl, h) refl
 modifiers_found pieces c [] h = refl
@@ -105,7 +105,7 @@ pub record Modified (pieces : List (List ℕ)) (text : List ℕ) (x : Token × L
   pub modifiers : List ℕ
   pub whole : text ≡ modifiers ++ x.1
   pub are : AreModifiers modifiers fold marks
-  pub over : IsBefore is_name_part x.1
+  pub over : BeginsWithNo is_name_part x.1
   pub token : x.0 ≡ token.Value (literal.Words pieces fold marks)
 
 ends : (pieces : List (List ℕ)) (fold marks : Bool) (text modifiers rest : List ℕ) (x : Token × List ℕ) → text ≡ modifiers ++ rest → AreModifiers modifiers fold marks → words pieces fold marks rest ≡ Some x → Modified pieces text x

@@ -4,7 +4,7 @@ use Rattle.std.proofs.lemmas.Bool.{eqb-true}
 use Rattle.md_value.specs.Name.{is_name, is_name_part}
 use Rattle.md_expr_tree.specs.declared.token.Token.{Token}
 use Rattle.md_expr_tree.specs.declared.token.Token.TheVariants as token
-use Rattle.md_expr_tree.specs.Classes.{is_quote, IsBefore}
+use Rattle.md_expr_tree.specs.Classes.{is_quote, BeginsWithNo}
 use Rattle.md_expr_tree.specs.Numbers.{IsMinus, none as no_minus, minus, number as is_number}
 use Rattle.md_expr_tree.specs.Tokens.{Stands, name, string, number, time, equal, short_equal, not_equal, less_equal, less, greater_equal, greater, not, and, or, star, open_group, close_group, comma}
 use Rattle.md_expr_lex.specs.declared.class.Kind.{Kind}
@@ -33,7 +33,7 @@ begins {text} {spelling} {rest} {t} x whole stands e =
     let there : Begins text (t, rest) = record { spelling = spelling; whole = whole; stands = stands } in
     subst (Begins text) (same (t, rest) x e) there
 
-either_sound : (b k : ℕ) (long t : Token) (bs : List ℕ) (x : Token × List ℕ) → ((rest : List ℕ) → Stands long (b ∷ k ∷ []) rest) → ((rest : List ℕ) → IsBefore (λ y. y == k) rest → Stands t (b ∷ []) rest) → either k long t bs ≡ Some x → Begins (b ∷ bs) x
+either_sound : (b k : ℕ) (long t : Token) (bs : List ℕ) (x : Token × List ℕ) → ((rest : List ℕ) → Stands long (b ∷ k ∷ []) rest) → ((rest : List ℕ) → BeginsWithNo (λ y. y == k) rest → Stands t (b ∷ []) rest) → either k long t bs ≡ Some x → Begins (b ∷ bs) x
 either_sound b k long t [] x f g e = begins x refl (g [] tt) e
 either_sound b k long t (y ∷ ys) x f g e = go (y == k) refl e
   where

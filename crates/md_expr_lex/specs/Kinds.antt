@@ -7,8 +7,8 @@ use Rattle.md_expr_lex.specs.declared.class.Kind.{Kind}
 use Rattle.md_expr_lex.specs.declared.class.Kind.TheVariants as kind
 
 -- no `)`
-abbrev pub is_inside : ℕ → Bool
-is_inside c = not (c == 41)
+abbrev pub is_not_closing : ℕ → Bool
+is_not_closing c = not (c == 41)
 
 abbrev pub sign_kind : ℕ → Kind
 sign_kind c =

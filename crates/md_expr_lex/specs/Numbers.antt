@@ -5,7 +5,7 @@ use Rattle.std.specs.Option.{option_map, option_and_then}
 use Rattle.md_expr_tree.specs.declared.tree.Literal.TheVariants as literal
 use Rattle.md_expr_tree.specs.declared.token.Token.TheVariants as token
 use Rattle.md_expr_tree.specs.Numbers.{value_of, signed, most}
-use Rattle.md_expr_tree.specs.Tokens.{follows_number}
+use Rattle.md_expr_tree.specs.Tokens.{may_not_follow_number}
 use Rattle.md_expr_lex.specs.Front.{Found, front, begins}
 
 -- the value of a number of 64 bits with sign
@@ -32,7 +32,7 @@ abbrev pub sized : Bool → List ℕ → ℕ → Option ℤ
 sized negative ds parts = if nat_le 1 (length ds) then in_parts negative (value_of ds) parts else None
 
 abbrev pub ended : Bool → List ℕ → ℕ × List ℕ → Found
-ended negative ds x = if begins follows_number x.1 then None else option_map (λ n. (token.Value (literal.Number n), x.1)) (sized negative ds x.0)
+ended negative ds x = if begins may_not_follow_number x.1 then None else option_map (λ n. (token.Value (literal.Number n), x.1)) (sized negative ds x.0)
 
 -- from the whole digits, and what follows them
 abbrev pub number_from : Bool → List ℕ × List ℕ → Found

@@ -9,11 +9,11 @@ use Rattle.md_time.specs.declared.form.Form.{Form}
 use Rattle.md_time.specs.declared.form.Form.TheVariants as form
 use Rattle.md_expr_tree.specs.declared.tree.Literal.TheVariants as literal
 use Rattle.md_expr_tree.specs.declared.token.Token.TheVariants as token
-use Rattle.md_expr_tree.specs.Tokens.{follows_time}
+use Rattle.md_expr_tree.specs.Tokens.{may_not_follow_time}
 use Rattle.md_expr_lex.specs.declared.times.Keyword.{Keyword}
 use Rattle.md_expr_lex.specs.declared.times.Keyword.TheVariants as keyword
 use Rattle.md_expr_lex.specs.Front.{Found, front, begins, after}
-use Rattle.md_expr_lex.specs.Kinds.{is_inside}
+use Rattle.md_expr_lex.specs.Kinds.{is_not_closing}
 use Rattle.md_expr_lex.specs.Numbers.{whole_of}
 
 -- whether a count is negative, and what follows its sign
@@ -69,7 +69,7 @@ iso_from x = option_and_then (λ iso. option_map (λ rest. (form.Iso iso, rest))
 
 abbrev pub iso_at : List ℕ → Timed
 iso_at [] = None
-iso_at (c ∷ cs) = if c == 40 then iso_from (front is_inside cs) else None
+iso_at (c ∷ cs) = if c == 40 then iso_from (front is_not_closing cs) else None
 
 abbrev pub time_by : Keyword → List ℕ → Timed
 time_by keyword.Yesterday rest = Some (form.Day (negsuc 0), rest)
@@ -77,7 +77,7 @@ time_by keyword.Iso rest = iso_at rest
 time_by k rest = with_count k rest
 
 abbrev pub timed : Form × List ℕ → Found
-timed x = if begins follows_time x.1 then None else Some (token.Value (literal.Time x.0), x.1)
+timed x = if begins may_not_follow_time x.1 then None else Some (token.Value (literal.Time x.0), x.1)
 
 abbrev pub worded : List ℕ × List ℕ → Found
 worded x = option_and_then timed (time_by (keyword_of x.0) x.1)

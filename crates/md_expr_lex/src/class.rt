@@ -3,8 +3,8 @@ ghost use Rattle.std.specs.Prelude.{◌≡◌, ◌==◌};
 ghost use Rattle.std.specs.Char.{is_ascii, is_ascii_digit};
 ghost use Rattle.md_value.specs.Name.{is_name_start, is_name_part};
 ghost use Rattle.md_expr_tree.specs.Classes.{is_blank, is_escapable};
-ghost use Rattle.md_expr_tree.specs.Tokens.{follows_number, follows_time};
-ghost use Rattle.md_expr_lex.specs.Kinds.{kind_of, word_kind, sign_kind, is_inside};
+ghost use Rattle.md_expr_tree.specs.Tokens.{may_not_follow_number, may_not_follow_time};
+ghost use Rattle.md_expr_lex.specs.Kinds.{kind_of, word_kind, sign_kind, is_not_closing};
 
 /// What begins with a character.
 #[derive(Clone, Copy, Debug, PartialEq, Eq)]
@@ -70,21 +70,21 @@ pub(crate) fn is_escapable(c: char) -> bool
     c == '"' || c == '\'' || c == '\\' || c == '*'
 }
 
-pub(crate) fn follows_number(c: char) -> bool
-    ensures { result ≡ follows_number c }
+pub(crate) fn may_not_follow_number(c: char) -> bool
+    ensures { result ≡ may_not_follow_number c }
 {
     is_name_part(c) || c == '.'
 }
 
-pub(crate) fn follows_time(c: char) -> bool
-    ensures { result ≡ follows_time c }
+pub(crate) fn may_not_follow_time(c: char) -> bool
+    ensures { result ≡ may_not_follow_time c }
 {
     is_name_part(c) || c == '('
 }
 
 /// Whether it may stand between parentheses.
-pub(crate) fn is_inside(c: char) -> bool
-    ensures { result ≡ is_inside c }
+pub(crate) fn is_not_closing(c: char) -> bool
+    ensures { result ≡ is_not_closing c }
 {
     c != ')'
 }

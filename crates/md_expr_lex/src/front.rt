@@ -4,9 +4,9 @@ ghost use Rattle.std.specs.Char.{is_ascii, is_ascii_digit};
 ghost use Rattle.std.specs.List.{list_all, take_while};
 ghost use Rattle.std.specs.Option.{option_map};
 ghost use Rattle.md_value.specs.Name.{is_name_part};
-ghost use Rattle.md_expr_tree.specs.Tokens.{follows_number, follows_time};
+ghost use Rattle.md_expr_tree.specs.Tokens.{may_not_follow_number, may_not_follow_time};
 ghost use Rattle.md_expr_lex.specs.Front.{front, begins, after};
-ghost use Rattle.md_expr_lex.specs.Kinds.{is_inside};
+ghost use Rattle.md_expr_lex.specs.Kinds.{is_not_closing};
 
 use crate::class;
 use std::alloc::{AllocError, Global};
@@ -40,15 +40,17 @@ pub(crate) fn digits(text: &[char]) -> (&[char], &[char])
 }
 
 fn inside_len(text: &[char]) -> usize
-    ensures { result ≡ length (take_while is_inside text.now) }
+    ensures { result ≡ length (take_while is_not_closing text.now) }
 {
-    text.iter().take_while(|c| class::is_inside(**c)).count()
+    text.iter()
+        .take_while(|c| class::is_not_closing(**c))
+        .count()
 }
 
 /// What stands before the first `)`, and the rest.
 #[tactic(auto, using(crate::proofs::Fronts::front_split))]
 pub(crate) fn inside(text: &[char]) -> (&[char], &[char])
-    ensures { (result.0.now, result.1.now) ≡ front is_inside text.now }
+    ensures { (result.0.now, result.1.now) ≡ front is_not_closing text.now }
 {
     text.split_at(inside_len(text))
 }
@@ -73,20 +75,20 @@ pub(crate) fn begins_word(text: &[char]) -> bool
 }
 
 pub(crate) fn lengthens_number(text: &[char]) -> bool
-    ensures { result ≡ begins follows_number text.now }
+    ensures { result ≡ begins may_not_follow_number text.now }
 {
     match text {
         [] => false,
-        [c, ..] => class::follows_number(*c),
+        [c, ..] => class::may_not_follow_number(*c),
     }
 }
 
 pub(crate) fn lengthens_time(text: &[char]) -> bool
-    ensures { result ≡ begins follows_time text.now }
+    ensures { result ≡ begins may_not_follow_time text.now }
 {
     match text {
         [] => false,
-        [c, ..] => class::follows_time(*c),
+        [c, ..] => class::may_not_follow_time(*c),
     }
 }
 

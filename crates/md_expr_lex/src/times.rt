@@ -5,7 +5,7 @@ ghost use Rattle.std.specs.List.{list_all};
 ghost use Rattle.std.specs.Option.{option_map};
 ghost use Rattle.md_value.specs.Name.{is_name_part};
 ghost use Rattle.md_expr_lex.specs.Front.{front};
-ghost use Rattle.md_expr_lex.specs.Kinds.{is_inside};
+ghost use Rattle.md_expr_lex.specs.Kinds.{is_not_closing};
 ghost use Rattle.md_expr_lex.specs.Times.{sign_of, closing, after_sign, count_at, keyword_of, form_of, with_count, iso_of, iso_from, iso_at, time_by, timed, worded, time_at};
 
 use crate::class::is_ascii;
@@ -133,7 +133,7 @@ fn iso_text(alloc: Global, text: &[char]) -> Result<Option<IsoText>, AllocError>
 }
 
 fn iso_inside(alloc: Global, text: &[char]) -> Result<Option<(Form, &[char])>, AllocError>
-    ensures { IfOk result (λ r. option_map (λ x. (x.0, x.1.now)) r ≡ iso_from (front is_inside text.now)) }
+    ensures { IfOk result (λ r. option_map (λ x. (x.0, x.1.now)) r ≡ iso_from (front is_not_closing text.now)) }
 {
     let (found, rest) = inside(text);
     match (iso_text(alloc, found)?, closing(rest)) {

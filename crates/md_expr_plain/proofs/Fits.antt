@@ -5,7 +5,7 @@ use Rattle.md_expr_tree.specs.declared.tree.Op.TheVariants as op
 use Rattle.md_expr_tree.specs.declared.token.Token.{Token}
 use Rattle.md_expr_tree.specs.declared.token.Token.TheVariants as token
 use Rattle.md_expr_tree.specs.declared.tree.Expr.{Expr}
-use Rattle.md_expr_tree.specs.Classes.{is_escapable, IsBefore}
+use Rattle.md_expr_tree.specs.Classes.{is_escapable, BeginsWithNo}
 use Rattle.md_expr_tree.specs.Grammar.{all_of, compare, name as named_subject, star as some_subject, words, IsAll, last_unit, and as also, last_all, comparison, expression}
 use Rattle.md_expr_tree.specs.Tokens.{IsBody, done, plain, escaped, wildcard, cd, name, string, equal, star, and, Lexes, over, then}
 use Rattle.md_expr_tree.specs.Reads.{IsFit}
@@ -48,7 +48,7 @@ is_body w = wildcard (subst (λ p. IsBody 34 (spelled w ++ 42 ∷ []) (p ∷ [] 
 abbrev equals : List ℕ → List ℕ → List ℕ
 equals w rest = codes "==" ++ ((34 ∷ (body w ++ 34 ∷ codes "cd")) ++ rest)
 
-lexes_equals : (w rest : List ℕ) (ts : List Token) → IsBefore is_name_part rest → Lexes rest ts → Lexes (equals w rest) (token.Op op.Equal ∷ token.Value (anywhere w) ∷ ts)
+lexes_equals : (w rest : List ℕ) (ts : List Token) → BeginsWithNo is_name_part rest → Lexes rest ts → Lexes (equals w rest) (token.Op op.Equal ∷ token.Value (anywhere w) ∷ ts)
 lexes_equals w rest ts h more = then equal (then (string {q = 34} refl (is_body w) cd h) more)
 
 -- the words' tests, joined by `&&`

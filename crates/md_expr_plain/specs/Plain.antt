@@ -2,6 +2,7 @@
 use Rattle.std.specs.Prelude.{ℕ, Bool, true, false, nat_lt, if◌then◌else◌, List, [], ◌∷◌, length, map, filter, chars, codes, Result, Ok, Err}
 use Rattle.std.specs.List.{slice_split}
 use Rattle.md_expr_tree.specs.declared.tree.Op.TheVariants as op
+use Rattle.md_expr_tree.specs.Limits.{most_bytes, most_comparisons}
 use Rattle.md_expr_tree.specs.declared.tree.Subject.TheVariants as subject
 use Rattle.md_expr_tree.specs.declared.tree.Literal.{Literal}
 use Rattle.md_expr_tree.specs.declared.tree.Literal.TheVariants as literal
@@ -37,8 +38,8 @@ name_test text = expr.Test (test.Compare (subject.Named (codes "kMDItemFSName"))
 -- what a plain search text with these words stands for
 abbrev pub of_words : List (List ℕ) → Result Expr ReadError
 of_words [] = Err error.NotExpression
-of_words (w ∷ ws) = if nat_lt 4096 (length (w ∷ ws)) then Err error.TooMany else Ok (all_of (map word_test (w ∷ ws)))
+of_words (w ∷ ws) = if nat_lt most_comparisons (length (w ∷ ws)) then Err error.TooMany else Ok (all_of (map word_test (w ∷ ws)))
 
 -- what a plain search text in bytes stands for
 abbrev pub interpreted : List ℕ → Result Expr ReadError
-interpreted text = if nat_lt 65536 (length text) then Err error.TooLong else of_words (words_of (chars text))
+interpreted text = if nat_lt most_bytes (length text) then Err error.TooLong else of_words (words_of (chars text))

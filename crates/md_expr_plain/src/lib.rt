@@ -5,4 +5,3 @@ mod plain;
 mod words;
 
 pub use plain::{MOST_BYTES, interpret, named};
-

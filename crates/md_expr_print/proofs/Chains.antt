@@ -2,7 +2,7 @@
 use Rattle.std.proofs.Common.{ℕ, List, [], ◌∷◌, ◌++◌, codes, refl, sym, subst, append_assoc}
 use Rattle.md_expr_tree.specs.declared.token.Token.{Token}
 use Rattle.md_expr_tree.specs.declared.token.Token.TheVariants as token
-use Rattle.md_expr_tree.specs.Classes.{IsBefore}
+use Rattle.md_expr_tree.specs.Classes.{BeginsWithNo}
 use Rattle.md_expr_tree.specs.Tokens.{Stands, open_group, close_group, not, Lexes, blank, then}
 use Rattle.md_expr_print.specs.Spell.{in_group}
 use Rattle.md_expr_print.proofs.Spellable.{is_more}
@@ -11,7 +11,7 @@ use Rattle.md_expr_print.proofs.Spellable.{is_more}
 pub record Has (kind : List Token → Type 0) (text : List ℕ) : Type 0 where
   pub tokens : List Token
   pub is : kind tokens
-  pub lexes : (rest : List ℕ) (us : List Token) → IsBefore is_more rest → Lexes rest us → Lexes (text ++ rest) (tokens ++ us)
+  pub lexes : (rest : List ℕ) (us : List Token) → BeginsWithNo is_more rest → Lexes rest us → Lexes (text ++ rest) (tokens ++ us)
 
 pub turned : {p q : List Token → Type 0} {text : List ℕ} → ((ts : List Token) → p ts → q ts) → Has p text → Has q text
 turned f h = record { tokens = h.tokens; is = f h.tokens h.is; lexes = h.lexes }

@@ -4,7 +4,7 @@ use Rattle.std.specs.List.{flat_map}
 use Rattle.md_value.specs.Name.{is_name_part}
 use Rattle.md_expr_tree.specs.declared.tree.Literal.TheVariants as literal
 use Rattle.md_expr_tree.specs.declared.token.Token.TheVariants as token
-use Rattle.md_expr_tree.specs.Classes.{is_escapable, IsBefore}
+use Rattle.md_expr_tree.specs.Classes.{is_escapable, BeginsWithNo}
 use Rattle.md_expr_tree.specs.Tokens.{IsBody, done, plain, escaped, wildcard, AreModifiers, none, c, d, cd, Stands, string}
 use Rattle.md_expr_print.specs.Literals.{join, escape, modifier, words_text}
 
@@ -51,5 +51,5 @@ modifiers true false = c
 modifiers false true = d
 modifiers false false = none
 
-pub words_stand : (p : List ℕ) (ps : List (List ℕ)) (fold marks : Bool) (rest : List ℕ) → IsBefore is_name_part rest → Stands (token.Value (literal.Words (p ∷ ps) fold marks)) (words_text (p ∷ ps) fold marks) rest
+pub words_stand : (p : List ℕ) (ps : List (List ℕ)) (fold marks : Bool) (rest : List ℕ) → BeginsWithNo is_name_part rest → Stands (token.Value (literal.Words (p ∷ ps) fold marks)) (words_text (p ∷ ps) fold marks) rest
 words_stand p ps fold marks rest h = string refl (is_body p ps) (modifiers fold marks) h

@@ -12,10 +12,10 @@ use Rattle.md_expr_tree.specs.declared.tree.Literal.TheVariants as literal
 use Rattle.md_expr_tree.specs.declared.tree.Test.{Test}
 use Rattle.md_expr_tree.specs.declared.token.Token.{Token}
 use Rattle.md_expr_tree.specs.declared.token.Token.TheVariants as token
-use Rattle.md_expr_tree.specs.Classes.{IsBefore}
+use Rattle.md_expr_tree.specs.Classes.{BeginsWithNo}
 use Rattle.md_expr_tree.specs.Grammar.{IsSubject, name as name_subject, star as star_subject, IsBound, number as number_bound, time as time_bound, IsValue, words, bound, IsComparison, compare, present, range}
 use Rattle.md_expr_tree.specs.Times.{IsTime}
-use Rattle.md_expr_tree.specs.Tokens.{follows_number, follows_time, Stands, name, string, number, time, equal, short_equal, not_equal, less_equal, less, greater_equal, greater, not, and, or, star, open_group, close_group, comma, Lexes, over, blank, then}
+use Rattle.md_expr_tree.specs.Tokens.{may_not_follow_number, may_not_follow_time, Stands, name, string, number, time, equal, short_equal, not_equal, less_equal, less, greater_equal, greater, not, and, or, star, open_group, close_group, comma, Lexes, over, blank, then}
 use Rattle.md_expr_print.specs.Literals.{time_text, literal_text}
 use Rattle.md_expr_print.specs.Spell.{subject_text, op_text, test_text}
 use Rattle.md_expr_print.proofs.Appended.{ascii_chars}
@@ -67,7 +67,7 @@ parts_spellable (t ∷ a) b h = let p = parts_spellable a b h.1 in ((h.0, p.0), 
 abbrev pub is_more : ℕ → Bool
 is_more c = (is_name_part c || c == 46) || c == 40
 
-weaken : (p q : ℕ → Bool) (rest : List ℕ) → ((c : ℕ) → p c ≡ false → q c ≡ false) → IsBefore p rest → IsBefore q rest
+weaken : (p q : ℕ → Bool) (rest : List ℕ) → ((c : ℕ) → p c ≡ false → q c ≡ false) → BeginsWithNo p rest → BeginsWithNo q rest
 weaken p q [] f h = tt
 weaken p q (c ∷ cs) f h = f c h
 
@@ -78,15 +78,15 @@ left_false true b h = cc
 no_part : (c : ℕ) → is_more c ≡ false → is_name_part c ≡ false
 no_part c h = left_false (is_name_part c) (c == 46) (left_false (is_name_part c || c == 46) (c == 40) h)
 
-no_number : (c : ℕ) → is_more c ≡ false → follows_number c ≡ false
-no_number c h = left_false (follows_number c) (c == 40) h
+no_number : (c : ℕ) → is_more c ≡ false → may_not_follow_number c ≡ false
+no_number c h = left_false (may_not_follow_number c) (c == 40) h
 
 outer : (a b d : Bool) → ((a || b) || d) ≡ false → (a || d) ≡ false
 outer false false d h = h
 outer false true d h = cc
 outer true b d h = cc
 
-no_time : (c : ℕ) → is_more c ≡ false → follows_time c ≡ false
+no_time : (c : ℕ) → is_more c ≡ false → may_not_follow_time c ≡ false
 no_time c h = outer (is_name_part c) (c == 46) (c == 40) h
 
 part_ascii : (c : ℕ) → is_name_part c ≡ true → is_ascii c ≡ true
@@ -108,14 +108,14 @@ name_ascii [] h = cc
 name_ascii (c ∷ cs) h = let p = both (is_name_start c) (list_all is_name_part cs) h in rw (start_ascii c p.0, parts_ascii cs p.1) refl
 
 -- a name's characters are its bytes
-name_lexes : (n rest : List ℕ) (us : List Token) → is_name n ≡ true → IsBefore is_name_part rest → Lexes rest us → Lexes (chars n ++ rest) (token.Name n ∷ us)
+name_lexes : (n rest : List ℕ) (us : List Token) → is_name n ≡ true → BeginsWithNo is_name_part rest → Lexes rest us → Lexes (chars n ++ rest) (token.Name n ∷ us)
 name_lexes n rest us e h l = subst (λ (cs : List ℕ). Lexes (cs ++ rest) (token.Name n ∷ us)) (sym (ascii_chars n (name_ascii n e))) (then (name e h) l)
 
-subject_lexes : {t : Token} {s : Subject} → IsSubject t s → IsSpellable t → (rest : List ℕ) (us : List Token) → IsBefore is_name_part rest → Lexes rest us → Lexes (subject_text s ++ rest) (t ∷ us)
+subject_lexes : {t : Token} {s : Subject} → IsSubject t s → IsSpellable t → (rest : List ℕ) (us : List Token) → BeginsWithNo is_name_part rest → Lexes rest us → Lexes (subject_text s ++ rest) (t ∷ us)
 subject_lexes (name_subject {n}) e rest us h l = name_lexes n rest us e h l
 subject_lexes star_subject e rest us h l = then star l
 
-op_stands : (o : Op) (rest : List ℕ) → IsBefore (λ c. c == 61) rest → Stands (token.Op o) (op_text o) rest
+op_stands : (o : Op) (rest : List ℕ) → BeginsWithNo (λ c. c == 61) rest → Stands (token.Op o) (op_text o) rest
 op_stands op.Equal rest h = equal
 op_stands op.NotEqual rest h = not_equal
 op_stands op.Less rest h = less h
@@ -123,11 +123,11 @@ op_stands op.Greater rest h = greater h
 op_stands op.LessEqual rest h = less_equal
 op_stands op.GreaterEqual rest h = greater_equal
 
-bound_stands : {v : Literal} → IsBound v → IsSpellable (token.Value v) → (rest : List ℕ) → IsBefore is_more rest → Stands (token.Value v) (literal_text v) rest
-bound_stands (number_bound {n}) w rest h = number (number_again n w) (weaken is_more follows_number rest no_number h)
-bound_stands time_bound t rest h = time t (weaken is_more follows_time rest no_time h)
+bound_stands : {v : Literal} → IsBound v → IsSpellable (token.Value v) → (rest : List ℕ) → BeginsWithNo is_more rest → Stands (token.Value v) (literal_text v) rest
+bound_stands (number_bound {n}) w rest h = number (number_again n w) (weaken is_more may_not_follow_number rest no_number h)
+bound_stands time_bound t rest h = time t (weaken is_more may_not_follow_time rest no_time h)
 
-value_stands : {v : Literal} → IsValue v → IsSpellable (token.Value v) → (rest : List ℕ) → IsBefore is_more rest → Stands (token.Value v) (literal_text v) rest
+value_stands : {v : Literal} → IsValue v → IsSpellable (token.Value v) → (rest : List ℕ) → BeginsWithNo is_more rest → Stands (token.Value v) (literal_text v) rest
 value_stands (words {piece} {pieces} {fold} {marks}) w rest h = words_stand piece pieces fold marks rest (weaken is_more is_name_part rest no_part h)
 value_stands (bound b) w rest h = bound_stands b w rest h
 
@@ -143,7 +143,7 @@ module _ (rest : List ℕ) (us : List Token) where
       regroup (subject_text s) (32 ∷ (op_text o ++ (32 ∷ text))) rest (t ∷ token.Op o ∷ v ∷ us)
       (subject_lexes is e ((32 ∷ (op_text o ++ (32 ∷ text))) ++ rest) (token.Op o ∷ v ∷ us) refl (blank refl op))
 
-  ranged : (n : List ℕ) (v w : Token) (a b : List ℕ) → is_name n ≡ true → ((rest : List ℕ) → IsBefore is_more rest → Stands v a rest) → ((rest : List ℕ) → IsBefore is_more rest → Stands w b rest) → Lexes rest us
+  ranged : (n : List ℕ) (v w : Token) (a b : List ℕ) → is_name n ≡ true → ((rest : List ℕ) → BeginsWithNo is_more rest → Stands v a rest) → ((rest : List ℕ) → BeginsWithNo is_more rest → Stands w b rest) → Lexes rest us
       → Lexes ((codes "InRange(" ++ (chars n ++ (codes ", " ++ (a ++ (codes ", " ++ (b ++ codes ")")))))) ++ rest) (token.Name (codes "InRange") ∷ token.Open ∷ token.Name n ∷ token.Comma ∷ v ∷ token.Comma ∷ w ∷ token.Close ∷ us)
   ranged n v w a b e first second l =
       let end : Lexes ((b ++ codes ")") ++ rest) (w ∷ token.Close ∷ us) = regroup b (codes ")") rest (w ∷ token.Close ∷ us) (then (second (41 ∷ rest) refl) (then close_group l)) in
@@ -153,7 +153,7 @@ module _ (rest : List ℕ) (us : List Token) where
       let named : Lexes ((chars n ++ (codes ", " ++ (a ++ (codes ", " ++ (b ++ codes ")"))))) ++ rest) (token.Name n ∷ token.Comma ∷ v ∷ token.Comma ∷ w ∷ token.Close ∷ us) = regroup (chars n) (codes ", " ++ (a ++ (codes ", " ++ (b ++ codes ")")))) rest (token.Name n ∷ token.Comma ∷ v ∷ token.Comma ∷ w ∷ token.Close ∷ us) (name_lexes n ((codes ", " ++ (a ++ (codes ", " ++ (b ++ codes ")")))) ++ rest) (token.Comma ∷ v ∷ token.Comma ∷ w ∷ token.Close ∷ us) e refl behind) in
       then (name refl refl) (then open_group named)
 
-  pub test_lexes : {ts : List Token} {t : Test} → IsComparison ts t → AreSpellable ts → IsBefore is_more rest → Lexes rest us → Lexes (test_text t ++ rest) (ts ++ us)
+  pub test_lexes : {ts : List Token} {t : Test} → IsComparison ts t → AreSpellable ts → BeginsWithNo is_more rest → Lexes rest us → Lexes (test_text t ++ rest) (ts ++ us)
   test_lexes (compare {t} {s} {o} {v} is value) w h l = compared t s o (token.Value v) (literal_text v) is w.0 (value_stands value w.1.1.0 rest h) l
   test_lexes (present {t} {s} {o} is equality) w h l = compared t s o token.Star (codes "*") is w.0 star l
   test_lexes (range {n} {a} {b} least greatest) w h l =

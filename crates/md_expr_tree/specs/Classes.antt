@@ -14,6 +14,6 @@ abbrev pub is_escapable : ℕ → Bool
 is_escapable c = ((c == 34 || c == 39) || c == 92) || c == 42
 
 -- the text does not begin with a character of the class
-abbrev pub IsBefore : (ℕ → Bool) → List ℕ → Type 0
-IsBefore class [] = Unit {0}
-IsBefore class (c ∷ cs) = class c ≡ false
+abbrev pub BeginsWithNo : (ℕ → Bool) → List ℕ → Type 0
+BeginsWithNo class [] = Unit {0}
+BeginsWithNo class (c ∷ cs) = class c ≡ false

@@ -6,3 +6,4 @@ pub mod Reads
 pub mod Times
 pub mod Tokens
 pub mod WellMade
+pub mod Limits

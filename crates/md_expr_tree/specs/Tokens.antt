@@ -6,7 +6,7 @@ use Rattle.md_expr_tree.specs.declared.tree.Op.TheVariants as op
 use Rattle.md_expr_tree.specs.declared.tree.Literal.TheVariants as literal
 use Rattle.md_expr_tree.specs.declared.token.Token.{Token}
 use Rattle.md_expr_tree.specs.declared.token.Token.TheVariants as token
-use Rattle.md_expr_tree.specs.Classes.{is_blank, is_quote, is_escapable, IsBefore}
+use Rattle.md_expr_tree.specs.Classes.{is_blank, is_quote, is_escapable, BeginsWithNo}
 use Rattle.md_expr_tree.specs.Numbers.{IsNumber}
 use Rattle.md_expr_tree.specs.Times.{IsTime}
 
@@ -18,12 +18,12 @@ pub data IsBody (q : ℕ) : List ℕ → List (List ℕ) → Type 0 where
   wildcard : {cs p : List ℕ} {ps : List (List ℕ)} → IsBody q cs (p ∷ ps) → IsBody q (42 ∷ cs) ([] ∷ p ∷ ps)
 
 -- an ASCII letter, a digit, `_`, or what would make a number longer
-abbrev pub follows_number : ℕ → Bool
-follows_number c = is_name_part c || c == 46
+abbrev pub may_not_follow_number : ℕ → Bool
+may_not_follow_number c = is_name_part c || c == 46
 
 -- an ASCII letter, a digit, `_`, or what would make a form of time longer
-abbrev pub follows_time : ℕ → Bool
-follows_time c = is_name_part c || c == 40
+abbrev pub may_not_follow_time : ℕ → Bool
+may_not_follow_time c = is_name_part c || c == 40
 
 -- the modifiers, and whether `c` and `d` are among them
 pub data AreModifiers : List ℕ → Bool → Bool → Type 0 where
@@ -35,18 +35,18 @@ pub data AreModifiers : List ℕ → Bool → Bool → Type 0 where
 
 -- the token is spelled so where this text follows it
 pub data Stands : Token → List ℕ → List ℕ → Type 0 where
-  name : {n rest : List ℕ} → is_name n ≡ true → IsBefore is_name_part rest → Stands (token.Name n) n rest
-  string : {q : ℕ} {body modifiers rest : List ℕ} {pieces : List (List ℕ)} {fold marks : Bool} → is_quote q ≡ true → IsBody q body pieces → AreModifiers modifiers fold marks → IsBefore is_name_part rest → Stands (token.Value (literal.Words pieces fold marks)) (q ∷ (body ++ q ∷ modifiers)) rest
-  number : {spelling rest : List ℕ} {n : ℤ} → IsNumber spelling n → IsBefore follows_number rest → Stands (token.Value (literal.Number n)) spelling rest
-  time : {spelling rest : List ℕ} {f : Form} → IsTime spelling f → IsBefore follows_time rest → Stands (token.Value (literal.Time f)) spelling rest
+  name : {n rest : List ℕ} → is_name n ≡ true → BeginsWithNo is_name_part rest → Stands (token.Name n) n rest
+  string : {q : ℕ} {body modifiers rest : List ℕ} {pieces : List (List ℕ)} {fold marks : Bool} → is_quote q ≡ true → IsBody q body pieces → AreModifiers modifiers fold marks → BeginsWithNo is_name_part rest → Stands (token.Value (literal.Words pieces fold marks)) (q ∷ (body ++ q ∷ modifiers)) rest
+  number : {spelling rest : List ℕ} {n : ℤ} → IsNumber spelling n → BeginsWithNo may_not_follow_number rest → Stands (token.Value (literal.Number n)) spelling rest
+  time : {spelling rest : List ℕ} {f : Form} → IsTime spelling f → BeginsWithNo may_not_follow_time rest → Stands (token.Value (literal.Time f)) spelling rest
   equal : {rest : List ℕ} → Stands (token.Op op.Equal) (codes "==") rest
-  short_equal : {rest : List ℕ} → IsBefore (λ c. c == 61) rest → Stands (token.Op op.Equal) (codes "=") rest
+  short_equal : {rest : List ℕ} → BeginsWithNo (λ c. c == 61) rest → Stands (token.Op op.Equal) (codes "=") rest
   not_equal : {rest : List ℕ} → Stands (token.Op op.NotEqual) (codes "!=") rest
   less_equal : {rest : List ℕ} → Stands (token.Op op.LessEqual) (codes "<=") rest
-  less : {rest : List ℕ} → IsBefore (λ c. c == 61) rest → Stands (token.Op op.Less) (codes "<") rest
+  less : {rest : List ℕ} → BeginsWithNo (λ c. c == 61) rest → Stands (token.Op op.Less) (codes "<") rest
   greater_equal : {rest : List ℕ} → Stands (token.Op op.GreaterEqual) (codes ">=") rest
-  greater : {rest : List ℕ} → IsBefore (λ c. c == 61) rest → Stands (token.Op op.Greater) (codes ">") rest
-  not : {rest : List ℕ} → IsBefore (λ c. c == 61) rest → Stands token.Not (codes "!") rest
+  greater : {rest : List ℕ} → BeginsWithNo (λ c. c == 61) rest → Stands (token.Op op.Greater) (codes ">") rest
+  not : {rest : List ℕ} → BeginsWithNo (λ c. c == 61) rest → Stands token.Not (codes "!") rest
   and : {rest : List ℕ} → Stands token.And (codes "&&") rest
   or : {rest : List ℕ} → Stands token.Or (codes "||") rest
   star : {rest : List ℕ} → Stands token.Star (codes "*") rest

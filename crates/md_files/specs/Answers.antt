@@ -7,7 +7,7 @@ use Rattle.md_source.specs.Causes.{Rose}
 use Rattle.md_source.specs.Tree.{Content, file_at, entry_at, bytes_at}
 use Rattle.md_source.specs.declared.tree.Entry.{Entry}
 use Rattle.imp_kind.specs.Kinds.{kind_of, is_imported}
-use Rattle.imp_kind.specs.Imports.{import}
+use Rattle.imp_kind.specs.Imports.{import, most_bytes}
 use Rattle.md_files.specs.declared.asking.Asked.{Asked}
 use Rattle.md_files.specs.declared.asking.Asked.TheVariants as asked
 
@@ -23,7 +23,7 @@ is_read path = is_imported (kind_of path)
 
 -- the most bytes of a file that are read, one more than are imported
 abbrev pub most_read : ℕ
-most_read = 16_777_217
+most_read = most_bytes + 1
 
 -- the count of faults rose
 abbrev pub Fails : ℕ → ℕ → Type 0

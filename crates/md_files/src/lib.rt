@@ -14,4 +14,3 @@ pub use importing::{import, in_path_order};
 pub use report::{End, Report};
 pub use showing::show;
 pub use tables::{attributes, importers};
-

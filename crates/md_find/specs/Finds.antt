@@ -10,7 +10,7 @@ use Rattle.md_world.specs.Differences.{paths_of}
 use Rattle.md_match.specs.Conditions.{Condition, passes}
 use Rattle.md_match.specs.Forms.{first_out_of_range, capped}
 use Rattle.md_machine.specs.declared.Spec.{Spec}
-use Rattle.md_machine.specs.declared.TheConstants.Batch.{NONE}
+use Rattle.md_machine.specs.Answers.{no_batch}
 use Rattle.md_machine.specs.Answers as machine
 use Rattle.md_machine.specs.Answers.{answer}
 use Rattle.md_files.specs.Answers.{Answer}
@@ -30,7 +30,7 @@ use Rattle.md_find.specs.Folders.{Folder, files, unlisted, nothing, full, IsHeld
 
 -- the query of a search: all hits in one part
 abbrev pub query_of : Search → Spec
-query_of search = machine.asked search.expr search.moment search.offset search.scope [] NONE
+query_of search = machine.spec_of search.expr search.moment search.offset search.scope [] no_batch
 
 -- the paths of the files that a query answers
 abbrev pub hits : Spec → List Entry → List Answer → List PathBytes

@@ -6,6 +6,10 @@ use Rattle.md_gen.specs.declared.kind.Kind.{Kind}
 use Rattle.md_gen.specs.declared.kind.Kind.TheVariants.{Text, Json, Csv}
 use Rattle.md_gen.specs.Draws.{next, drawn}
 
+-- the most files that are made
+abbrev pub most_made : ℕ
+most_made = 10_000
+
 -- the words that contents are made of
 abbrev pub words : List (List ℕ)
 words = codes "red" ∷ codes "blue" ∷ codes "tax" ∷ codes "plan" ∷ codes "note" ∷ codes "draft" ∷ codes "final" ∷ codes "budget" ∷ []

@@ -1,7 +1,7 @@
 // Files and a script, made from a number.
 ghost use Rattle.std.specs.Prelude.{◌≡◌, ◌≤◌, ◌∷◌, [], IfOk, codes, string_bytes};
 ghost use Rattle.md_source.specs.Tree.{IsContent};
-ghost use Rattle.md_gen.specs.Files.{files};
+ghost use Rattle.md_gen.specs.Files.{files, most_made};
 ghost use Rattle.md_gen.specs.Scripts.{script};
 
 use crate::draws::Draws;
@@ -28,7 +28,7 @@ pub struct Made {
 #[tactic(auto, unfolding(crate::specs::Files::files, crate::specs::Scripts::script))]
 pub fn make(alloc: Global, start: u64, n: u32) -> Result<Made, AllocError>
     requires some { 1 ≤ n }
-    requires most { n ≤ MOST_FILES }
+    requires most { n ≤ most_made }
     ensures files { IfOk result (λ made. made.files.items ≡ files start n) }
     ensures script { IfOk result (λ made. string_bytes made.script ≡ script start n) }
     ensures content { IfOk result (λ made. IsContent (record { folders = [] ∷ codes "g" ∷ []; files = made.files.items })) }

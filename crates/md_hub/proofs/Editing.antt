@@ -8,9 +8,9 @@ use Rattle.std.proofs.lemmas.List.Sums.{prefix_len_is}
 use Rattle.md_value.specs.Values.{PathBytes, is_same, is_before}
 use Rattle.md_value.proofs.Orders.{same_exact, same_sym_false, before_trans, before_not_same, before_not_back, before_else_after, itself_not_before}
 use Rattle.md_world.specs.declared.Row.{Row}
-use Rattle.md_world.specs.Tables.{StandAfter, IsTable, rows_before, rows_after, with_row, without_path}
+use Rattle.md_world.specs.Tables.{StandAfter, IsTable, rows_before, rows_after, with_row, without_path, has_at}
 use Rattle.md_world.proofs.Lookups.{by_test, stand_after_trans}
-use Rattle.md_hub.specs.Edits.{place_in, has_at}
+use Rattle.md_hub.specs.Edits.{place_in}
 
 stand_at : (p : PathBytes) (rows : List Row) (j : ℕ) (d : Row) → StandAfter p rows → j < length rows → is_before p (get_or rows j d).path ≡ true
 stand_at p [] j d h lt = absurd (omega arith)

@@ -1,8 +1,8 @@
 // A table that is changed in place.
 ghost use Rattle.std.specs.Prelude.{◌≡◌, ◌≤◌, OnOk, OnErr, length};
 ghost use Rattle.md_value.specs.Values.{is_before};
-ghost use Rattle.md_world.specs.Tables.{IsTable, with_row, without_path, after};
-ghost use Rattle.md_hub.specs.Edits.{place_in, has_at};
+ghost use Rattle.md_world.specs.Tables.{IsTable, with_row, without_path, after, has_at};
+ghost use Rattle.md_hub.specs.Edits.{place_in};
 
 use md_value::{Copied, Path};
 use md_world::{Change, Row};

@@ -2,7 +2,7 @@
 ghost use Rattle.std.specs.Prelude.{◌≡◌, IfOk, OnOk, OnErr, true, false};
 ghost use Rattle.md_machine.specs.Replies.{delivers, takes_memory};
 ghost use Rattle.md_machine.specs.States.{opening, ticket_at, query_at};
-ghost use Rattle.md_machine.specs.Steps.{step, asked};
+ghost use Rattle.md_machine.specs.Steps.{step, outcome_of};
 ghost use Rattle.std.specs.Option.{option_map};
 ghost use Rattle.md_query.specs.Asked.{answered};
 ghost use Rattle.md_hub.specs.Given.{given_by};
@@ -196,10 +196,10 @@ impl Hub {
     }
 
     fn ask(&mut self, alloc: Global, call: Call) -> Result<Reply, AllocError>
-        ensures reply { IfOk result (λ r. r ≡ (asked self.old (answered self.old call.ask call.now_ms) (query_at self.old.queries call.client call.number)).reply) }
-        ensures state { OnOk result (self.new ≡ (asked self.old (answered self.old call.ask call.now_ms) (query_at self.old.queries call.client call.number)).state) }
+        ensures reply { IfOk result (λ r. r ≡ (outcome_of self.old (answered self.old call.ask call.now_ms) (query_at self.old.queries call.client call.number)).reply) }
+        ensures state { OnOk result (self.new ≡ (outcome_of self.old (answered self.old call.ask call.now_ms) (query_at self.old.queries call.client call.number)).state) }
         ensures err { OnErr result (self.new ≡ self.old) }
-        ensures memory { OnErr result (takes_memory (asked self.old (answered self.old call.ask call.now_ms) (query_at self.old.queries call.client call.number)).reply ≡ true) }
+        ensures memory { OnErr result (takes_memory (outcome_of self.old (answered self.old call.ask call.now_ms) (query_at self.old.queries call.client call.number)).reply ≡ true) }
     {
         let limits = self.limits;
         let reply = queries::ask(
@@ -214,9 +214,9 @@ impl Hub {
     }
 
     fn ask_twice(&mut self, alloc: Global, call: Call) -> Result<(Reply, Reply), AllocError>
-        ensures reply { IfOk result (λ r. r.0 ≡ (asked self.old (answered self.old call.ask call.now_ms) (query_at self.old.queries call.client call.number)).reply) }
-        ensures copy { IfOk result (λ r. r.1 ≡ (asked self.old (answered self.old call.ask call.now_ms) (query_at self.old.queries call.client call.number)).reply) }
-        ensures state { OnOk result (self.new ≡ (asked self.old (answered self.old call.ask call.now_ms) (query_at self.old.queries call.client call.number)).state) }
+        ensures reply { IfOk result (λ r. r.0 ≡ (outcome_of self.old (answered self.old call.ask call.now_ms) (query_at self.old.queries call.client call.number)).reply) }
+        ensures copy { IfOk result (λ r. r.1 ≡ (outcome_of self.old (answered self.old call.ask call.now_ms) (query_at self.old.queries call.client call.number)).reply) }
+        ensures state { OnOk result (self.new ≡ (outcome_of self.old (answered self.old call.ask call.now_ms) (query_at self.old.queries call.client call.number)).state) }
         ensures err { OnErr result (self.new ≡ self.old) }
     {
         let limits = self.limits;

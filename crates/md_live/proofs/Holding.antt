@@ -7,7 +7,7 @@ use Rattle.md_world.specs.Holding.{with_rows, without_paths}
 use Rattle.md_world.specs.Orders.{IsInOrder, in_order}
 use Rattle.md_world.specs.declared.order.SortKey.{SortKey}
 use Rattle.md_world.specs.declared.Row.{Row}
-use Rattle.md_world.specs.declared.TheConstants.Limits.{STANDARD}
+use Rattle.md_world.specs.Limits.{standard}
 use Rattle.md_world.proofs.Tables.{table_with_rows, table_without_paths, with_rows_append}
 use Rattle.md_machine.specs.declared.Event.{Event}
 use Rattle.md_machine.specs.declared.Reply.{Reply}
@@ -40,41 +40,41 @@ held_table rows (r ∷ replies) h = held_table (taken_in rows r) replies (taken_
 
 module _ (events : List Event) (client number : ℕ) where
   -- what the client holds is the hits given
-  held_given : (q : Query) → query_at (run STANDARD events).last.queries client number ≡ Some q
-      → held (told client number (entries STANDARD events)) ≡ (given_by q).rows
+  held_given : (q : Query) → query_at (run standard events).last.queries client number ≡ Some q
+      → held (told client number (entries standard events)) ≡ (given_by q).rows
   held_given q found =
-      let queries = (run STANDARD events).last.queries in
-      let all = entries STANDARD events in
+      let queries = (run standard events).last.queries in
+      let all = entries standard events in
       let hits = (given_by q).rows in
       let key = key_of client number q (found_key queries client number q found) in
-      let own : held (told q.client q.number all) ≡ hits = held_is_answer STANDARD events q (own_place queries client number q found) in
+      let own : held (told q.client q.number all) ≡ hits = held_is_answer standard events q (own_place queries client number q found) in
       subst (λ c. held (told c number all) ≡ hits) key.0 (subst (λ n. held (told q.client n all) ≡ hits) key.1 own)
 
   -- the hits given, set one after the other, are what the client holds
-  given_held : (q : Query) → query_at (run STANDARD events).last.queries client number ≡ Some q
-      → with_rows [] (given_by q).rows ≡ held (told client number (entries STANDARD events))
+  given_held : (q : Query) → query_at (run standard events).last.queries client number ≡ Some q
+      → with_rows [] (given_by q).rows ≡ held (told client number (entries standard events))
   given_held q found =
-      let all = entries STANDARD events in
+      let all = entries standard events in
       subst (λ rows. with_rows [] rows ≡ held (told client number all)) (held_given q found)
       (with_rows_append [] (held (told client number all)) (held_table [] (told client number all) tt))
 
   -- the client holds as many rows as hits were given
-  pub counted_so : given_count (option_map given_by (query_at (run STANDARD events).last.queries client number))
-      ≡ held_count (entries STANDARD events) client number (query_at (run STANDARD events).last.queries client number)
+  pub counted_so : given_count (option_map given_by (query_at (run standard events).last.queries client number))
+      ≡ held_count (entries standard events) client number (query_at (run standard events).last.queries client number)
   counted_so =
-      let queries = (run STANDARD events).last.queries in
+      let queries = (run standard events).last.queries in
       elim (query_at queries client number) as
-      (λ o. query_at queries client number ≡ o → given_count (option_map given_by o) ≡ held_count (entries STANDARD events) client number o) [
+      (λ o. query_at queries client number ≡ o → given_count (option_map given_by o) ≡ held_count (entries standard events) client number o) [
         | None ↦ λ found. refl
         | Some q ↦ λ found. ap length (sym (held_given q found))
       ] refl
 
   -- what is printed of the hits given is what is printed of what the client holds
-  pub shown_so : follower_text client number (followed_in (run STANDARD events).last client number)
-      ≡ shown_text (entries STANDARD events) client number (query_at (run STANDARD events).last.queries client number)
+  pub shown_so : follower_text client number (followed_in (run standard events).last client number)
+      ≡ shown_text (entries standard events) client number (query_at (run standard events).last.queries client number)
   shown_so =
-      let queries = (run STANDARD events).last.queries in
-      let all = entries STANDARD events in
+      let queries = (run standard events).last.queries in
+      let all = entries standard events in
       elim (query_at queries client number) as
       (λ o. query_at queries client number ≡ o → follower_text client number (option_map followed (option_map given_by o)) ≡ shown_text all client number o) [
         | None ↦ λ found. refl

@@ -3,7 +3,7 @@ use Rattle.std.proofs.Common.{◌≡◌, ℕ, suc, ◌≤◌, List, [], ◌∷�
 use Rattle.std.specs.List.{filter_map, cons_option, enumerate_from}
 use Rattle.std.proofs.lemmas.List.FromFn.{length-enumerate_from}
 use Rattle.std.specs.Str.Lines.{lines}
-use Rattle.md_script.specs.declared.read.TheConstants.{MOST_LINES}
+use Rattle.md_script.specs.Limits.{most_lines}
 use Rattle.md_script.specs.declared.script.Line.{Line}
 use Rattle.md_script.specs.Scripts.{verdict, numbered, statements}
 use Rattle.md_script.proofs.Verdicts.{accepted_lem}
@@ -16,7 +16,7 @@ few_kept : {A B : Type 0} (f : A → Option B) (xs : List A) → length (filter_
 few_kept f [] = omega arith
 few_kept f (x ∷ xs) = few_more (f x) (filter_map f xs) (length xs) (few_kept f xs)
 
-pub few_lines : (bytes : List ℕ) (read : List Line) → verdict bytes ≡ Ok read → length read ≤ MOST_LINES
+pub few_lines : (bytes : List ℕ) (read : List Line) → verdict bytes ≡ Ok read → length read ≤ most_lines
 few_lines bytes read h =
     let accepted = (accepted_lem bytes read).0 h in
     let short = accepted.0 in

@@ -7,7 +7,7 @@ use Rattle.md_value.specs.Values.{PathBytes}
 use Rattle.md_world.specs.declared.Change.{Change}
 use Rattle.md_world.specs.declared.Change.TheVariants as change
 use Rattle.md_world.specs.declared.Notice.{Notice}
-use Rattle.md_world.specs.declared.TheConstants.Limits.{STANDARD}
+use Rattle.md_world.specs.Limits.{standard}
 use Rattle.md_machine.specs.declared.Event.{Event}
 use Rattle.md_machine.specs.declared.Event.TheVariants as event
 use Rattle.md_machine.specs.declared.Reply.{Reply}
@@ -40,7 +40,7 @@ telling state report next tally = record { state = state; report = report; next 
 
 -- a server that events led to from the opening state, with a report
 abbrev pub led : List Event → Report → Telling
-led events report = telling (run STANDARD events).last report (1 + length events) (tally_of (run STANDARD events).replies)
+led events report = telling (run standard events).last report (1 + length events) (tally_of (run standard events).replies)
 
 counted-append : (xs ys : List Notice) → counted (xs ++ ys) ≡ both (counted xs) (counted ys)
 counted-append xs ys =
@@ -59,36 +59,36 @@ with_findings report findings out = made (worse report.end (end_of findings)) ou
 -- a report with what is printed of what is done after these events
 abbrev told_after : List Event → Report → List Action → Report
 told_after events report actions =
-    with_findings report (filter_map finding_of actions) (report.out ++ text_from (entries STANDARD events) (run STANDARD events).last actions)
+    with_findings report (filter_map finding_of actions) (report.out ++ text_from (entries standard events) (run standard events).last actions)
 
 module _ (events more : List Event) where
   abbrev here : State
-  here = (run STANDARD events).last
+  here = (run standard events).last
 
   abbrev text : List ℕ
-  text = journal_text (1 + length (entries STANDARD events)) (entries_from here more)
+  text = journal_text (1 + length (entries standard events)) (entries_from here more)
 
   pub led_on : (report : Report) → after_events (led events report) more ≡ led (events ++ more) (with_text report text)
   led_on report =
       let places : 1 + length events + length more ≡ 1 + length (events ++ more) = omega (arith, length-append events more) in
-      let joined : tally_of (run STANDARD (events ++ more)).replies ≡ both (tally_of (run STANDARD events).replies) (tally_of (run_from here more).replies) =
-      ap tally_of (replies-join (opening STANDARD) events more) ∙ tally-join (run STANDARD events).replies (run_from here more).replies
+      let joined : tally_of (run standard (events ++ more)).replies ≡ both (tally_of (run standard events).replies) (tally_of (run_from here more).replies) =
+      ap tally_of (replies-join (opening standard) events more) ∙ tally-join (run standard events).replies (run_from here more).replies
       in
-      rw (joined, last-join (opening STANDARD) events more, places, length-entries (opening STANDARD) events) refl
+      rw (joined, last-join (opening standard) events more, places, length-entries (opening standard) events) refl
 
   -- the text of events and of what is done after them
   text_on : (report : Report) (actions : List Action)
       → (told_after (events ++ more) (with_text report text) actions).out
-      ≡ report.out ++ (text ++ text_from (entries STANDARD events ++ entries_from here more) (run_from here more).last actions)
+      ≡ report.out ++ (text ++ text_from (entries standard events ++ entries_from here more) (run_from here more).last actions)
   text_on report actions =
-      rw (entries-join (opening STANDARD) events more, last-join (opening STANDARD) events more)
-      (append_assoc report.out text (text_from (entries STANDARD events ++ entries_from here more) (run_from here more).last actions))
+      rw (entries-join (opening standard) events more, last-join (opening standard) events more)
+      (append_assoc report.out text (text_from (entries standard events ++ entries_from here more) (run_from here more).last actions))
 
   -- what is told of events that leave no finding, and of what is done after them
   told_on : (report : Report) (actions : List Action)
       → ((r : Report) → (after_actions (led (events ++ more) r) actions).report ≡ told_after (events ++ more) r actions)
       → (after_actions (after_events (led events report) more) actions).report
-      ≡ with_findings report (filter_map finding_of actions) (report.out ++ (text ++ text_from (entries STANDARD events ++ entries_from here more) (run_from here more).last actions))
+      ≡ with_findings report (filter_map finding_of actions) (report.out ++ (text ++ text_from (entries standard events ++ entries_from here more) (run_from here more).last actions))
   told_on report actions rest =
       ap (λ (t : Telling). (after_actions t actions).report) (led_on report)
       ∙ rest (with_text report text)
@@ -109,24 +109,24 @@ told_so : (events : List Event) (report : Report) (actions : List Action)
     → (after_actions (led events report) actions).report ≡ told_after events report actions
 told_so events report [] = counted_none report
 told_so events report (job path given ∷ actions) =
-    let more = events_of (run STANDARD events).last (job path given) in
+    let more = events_of (run standard events).last (job path given) in
     let finding = named path given in
     told_on events more (noted report finding) actions (λ r. told_so (events ++ more) r actions)
     ∙ noted_on report finding (filter_map finding_of actions)
-    (report.out ++ text_from (entries STANDARD events) (run STANDARD events).last (job path given ∷ actions))
+    (report.out ++ text_from (entries standard events) (run standard events).last (job path given ∷ actions))
 told_so events report (removal path ∷ actions) =
-    let more = events_of (run STANDARD events).last (removal path) in
+    let more = events_of (run standard events).last (removal path) in
     told_on events more report actions (λ r. told_so (events ++ more) r actions)
 told_so events report (query event ∷ actions) =
     let more = event ∷ [] in
     told_on events more report actions (λ r. told_so (events ++ more) r actions)
 told_so events report (show client number ∷ actions) =
-    let shown = shown_text (entries STANDARD events) client number (query_at (run STANDARD events).last.queries client number) in
-    let rest = λ (all : List Entry). text_from all (run STANDARD events).last actions in
+    let shown = shown_text (entries standard events) client number (query_at (run standard events).last.queries client number) in
+    let rest = λ (all : List Entry). text_from all (run standard events).last actions in
     ap (λ (text : List ℕ). (after_actions (led events (with_text report text)) actions).report) (shown_so events client number)
     ∙ told_so events (with_text report shown) actions
     ∙ ap (with_findings report (filter_map finding_of actions))
-    (append_assoc report.out shown (rest (entries STANDARD events)) ∙ ap (λ (all : List Entry). report.out ++ (shown ++ rest all)) (sym (append-nil (entries STANDARD events))))
+    (append_assoc report.out shown (rest (entries standard events)) ∙ ap (λ (all : List Entry). report.out ++ (shown ++ rest all)) (sym (append-nil (entries standard events))))
 
 -- what is told of a whole run is its report
 pub told_all : (actions : List Action) → (after_actions untold actions).report ≡ report_of_actions actions

@@ -6,7 +6,7 @@ use Rattle.md_world.specs.declared.Change.{Change}
 use Rattle.md_world.specs.declared.Change.TheVariants as change
 use Rattle.md_machine.specs.declared.Event.{Event}
 use Rattle.md_machine.specs.declared.Event.TheVariants as event
-use Rattle.md_machine.specs.Answers.{asked}
+use Rattle.md_machine.specs.Answers.{spec_of}
 use Rattle.imp_kind.specs.Imports.{import}
 use Rattle.md_files.specs.Answers.{of_import}
 use Rattle.md_files.specs.declared.asking.Asked.{Asked}
@@ -33,7 +33,7 @@ abbrev pub action_at : ℤ → ℤ → ℕ → What → Option Asked → Action
 action_at now offset ms (what.Put path text) given = job path (put_file (moment_of now ms) offset path text)
 action_at now offset ms (what.Import path) given = job path (unwrap_or given file.Absent)
 action_at now offset ms (what.Remove path) given = removal path
-action_at now offset ms (what.Query client number expr scope order batch) given = query (event.Create client number (asked expr (moment_of now ms) offset scope order batch))
+action_at now offset ms (what.Query client number expr scope order batch) given = query (event.Create client number (spec_of expr (moment_of now ms) offset scope order batch))
 action_at now offset ms (what.Gather client number) given = query (event.Gather client number ms)
 action_at now offset ms (what.Poll client number) given = query (event.Poll client number ms)
 action_at now offset ms (what.Disable client number) given = query (event.Disable client number)

@@ -4,7 +4,7 @@ use Rattle.std.specs.List.{zip}
 use Rattle.md_value.specs.Values.{PathBytes}
 use Rattle.md_world.specs.declared.Change.{Change}
 use Rattle.md_world.specs.declared.Change.TheVariants as change
-use Rattle.md_world.specs.declared.TheConstants.Limits.{STANDARD}
+use Rattle.md_world.specs.Limits.{standard}
 use Rattle.md_machine.specs.declared.Event.{Event}
 use Rattle.md_machine.specs.declared.Event.TheVariants as event
 use Rattle.md_machine.specs.declared.Reply.{Reply}
@@ -52,4 +52,4 @@ events_from s (action ∷ actions) = events_of s action ++ events_from (run_from
 
 -- the events of a whole run, from the opening state
 abbrev pub run_events : List Action → List Event
-run_events actions = events_from (opening STANDARD) actions
+run_events actions = events_from (opening standard) actions

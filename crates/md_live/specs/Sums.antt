@@ -1,6 +1,6 @@
 -- What the run of a script comes to, in numbers.
 use Rattle.std.specs.Prelude.{◌≡◌, ℕ, ℤ, List, length, map, Option, None, Some}
-use Rattle.md_world.specs.declared.TheConstants.Limits.{STANDARD}
+use Rattle.md_world.specs.Limits.{standard}
 use Rattle.md_source.specs.Tree.{Content}
 use Rattle.md_machine.specs.declared.Event.{Event}
 use Rattle.md_machine.specs.States.{Query, State, query_at}
@@ -20,16 +20,16 @@ held_count all client number (Some q) = length (held (told client number all))
 
 -- the same for a client's query 1 after these events
 abbrev pub held_after : List Event → ℕ → ℕ
-held_after events client = held_count (entries STANDARD events) client 1 (query_at (run STANDARD events).last.queries client 1)
+held_after events client = held_count (entries standard events) client 1 (query_at (run standard events).last.queries client 1)
 
 -- what the run of these events from the opening state comes to, and how many rows each of the clients holds at its end
 abbrev pub sum_of : List Event → List ℕ → Sum
 sum_of events clients =
     record {
       events = length events;
-      version = (run STANDARD events).last.version;
-      rows = length (run STANDARD events).last.table;
-      tally = tally_of (run STANDARD events).replies;
+      version = (run standard events).last.version;
+      rows = length (run standard events).last.table;
+      tally = tally_of (run standard events).replies;
       held = map (held_after events) clients;
     }
 

@@ -3,7 +3,7 @@ use Rattle.std.specs.Prelude.{ℕ, ◌+◌, ◌-◌, List, [], ◌∷◌, ◌++�
 use Rattle.std.specs.Option.{option_map}
 use Rattle.md_world.specs.Holding.{with_rows}
 use Rattle.md_world.specs.Orders.{in_order}
-use Rattle.md_world.specs.declared.TheConstants.Limits.{STANDARD}
+use Rattle.md_world.specs.Limits.{standard}
 use Rattle.md_hub.specs.Given.{given_by}
 use Rattle.md_hub.specs.declared.held.Held.{Held}
 use Rattle.md_machine.specs.declared.Event.{Event}
@@ -32,7 +32,7 @@ pub record Telling : Type 0 where
 
 -- the opening state, and nothing told
 abbrev pub untold : Telling
-untold = record { state = opening STANDARD; report = no_report; next = 1; tally = no_tally }
+untold = record { state = opening standard; report = no_report; next = 1; tally = no_tally }
 
 -- with more text for out
 abbrev pub with_text : Report → List ℕ → Report

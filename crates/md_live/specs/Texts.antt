@@ -1,7 +1,7 @@
 -- What is printed on out of what is done.
 use Rattle.std.specs.Prelude.{ℕ, ◌+◌, List, [], ◌∷◌, ◌++◌, length, Option, None, Some}
 use Rattle.md_world.specs.Orders.{in_order}
-use Rattle.md_world.specs.declared.TheConstants.Limits.{STANDARD}
+use Rattle.md_world.specs.Limits.{standard}
 use Rattle.md_machine.specs.States.{Query, State, opening, query_at}
 use Rattle.md_machine.specs.Runs.{Entry, run_from, told, held}
 use Rattle.md_render.specs.Texts.{journal_text, held_text, unheld_text}
@@ -27,4 +27,4 @@ text_from entries s (action ∷ actions) =
 
 -- what is printed of a whole run, from the opening state
 abbrev pub run_text : List Action → List ℕ
-run_text actions = text_from [] (opening STANDARD) actions
+run_text actions = text_from [] (opening standard) actions

@@ -13,4 +13,3 @@ pub use runs::run;
 pub use sums::{Sum, sum_up};
 pub use tally::Tally;
 pub use time_forms::out_of_range;
-

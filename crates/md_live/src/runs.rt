@@ -1,5 +1,6 @@
 // The run of a script.
 ghost use Rattle.std.specs.Prelude.{◌≡◌, ◌≤◌, true, false, IfOk, IfSome, length};
+ghost use Rattle.md_script.specs.Limits.{most_lines};
 ghost use Rattle.md_source.specs.Causes.{Rose};
 ghost use Rattle.md_value.specs.Values.{IsMoment};
 ghost use Rattle.md_files.specs.Reports.{EndHasCause};
@@ -22,7 +23,7 @@ pub(crate) fn run_lines(
     lines: &[Line],
     givens: Vec<Option<Asked>>,
 ) -> Result<Session, AllocError>
-    requires few { length lines.now ≤ 100_000 }
+    requires few { length lines.now ≤ most_lines }
     requires moment { IsMoment setting.now.moment }
     ensures { IfOk result (λ session. session ≡ after_actions untold (actions_of setting.now.moment setting.now.offset lines.now givens.items)) }
 {
@@ -40,7 +41,7 @@ fn run_given(
     lines: &[Line],
     givens: Vec<Option<Asked>>,
 ) -> Result<Report, AllocError>
-    requires few { length lines.now ≤ 100_000 }
+    requires few { length lines.now ≤ most_lines }
     requires moment { IsMoment setting.now.moment }
     ensures { IfOk result (λ report. report ≡ report_of_actions (actions_of setting.now.moment setting.now.offset lines.now givens.items)) }
 {
@@ -60,7 +61,7 @@ pub fn run<T: Tree>(
     offset: i32,
     lines: &[Line],
 ) -> Result<Report, AllocError>
-    requires few { length lines.now ≤ 100_000 }
+    requires few { length lines.now ≤ most_lines }
     requires moment { IsMoment now }
     ensures runs { IfOk result (λ report. Runs (T.content tree.old) (T.faults tree.old) (T.faults tree.new) now offset lines.now report) }
     ensures cause { IfOk result (λ report. EndHasCause (T.faults tree.old) (T.faults tree.new) report.end) }

@@ -1,7 +1,7 @@
 // A server that the lines of a script are run on, one after the other.
 ghost use Rattle.std.specs.Prelude.{◌≡◌, ◌+◌, ◌<◌, ◌^◌, ◌∷◌, [], IfOk, OnOk, map};
 ghost use Rattle.md_value.specs.Values.{IsMoment};
-ghost use Rattle.md_machine.specs.Answers.{asked};
+ghost use Rattle.md_machine.specs.Answers.{spec_of};
 ghost use Rattle.md_machine.specs.Steps.{step};
 ghost use Rattle.md_live.specs.Actions as actions;
 ghost use Rattle.md_live.specs.Actions.Action.{job, show};
@@ -70,7 +70,7 @@ fn spec_of(
     order: &Order,
     batch: Batch,
 ) -> Result<Spec, AllocError>
-    ensures { IfOk result (λ spec. spec ≡ asked expr.now moment offset scope.now order.now batch) }
+    ensures { IfOk result (λ spec. spec ≡ spec_of expr.now moment offset scope.now order.now batch) }
 {
     let expr = expr.copy(alloc)?;
     let scope = scope.copy(alloc)?;

@@ -1,5 +1,6 @@
 // What the run of a script comes to, in numbers.
 ghost use Rattle.std.specs.Prelude.{◌≡◌, ◌≤◌, IfOk, length};
+ghost use Rattle.md_script.specs.Limits.{most_lines};
 ghost use Rattle.md_value.specs.Values.{IsMoment};
 ghost use Rattle.md_live.specs.Actions.{actions_of};
 ghost use Rattle.md_live.specs.Events.{run_events};
@@ -37,7 +38,7 @@ fn sum_given(
     givens: Vec<Option<Asked>>,
     clients: &[u8],
 ) -> Result<Sum, AllocError>
-    requires few { length lines.now ≤ 100_000 }
+    requires few { length lines.now ≤ most_lines }
     requires moment { IsMoment setting.now.moment }
     ensures { IfOk result (λ sum. sum ≡ sum_of (run_events (actions_of setting.now.moment setting.now.offset lines.now givens.items)) clients.now) }
 {
@@ -55,7 +56,7 @@ pub fn sum_up<T: Tree>(
     lines: &[Line],
     clients: &[u8],
 ) -> Result<Sum, AllocError>
-    requires few { length lines.now ≤ 100_000 }
+    requires few { length lines.now ≤ most_lines }
     requires moment { IsMoment now }
     ensures sums { IfOk result (λ sum. Sums (T.content tree.old) (T.faults tree.old) (T.faults tree.new) now offset lines.now clients.now sum) }
     ensures later { T.faults tree.old ≤ T.faults tree.new }

@@ -12,7 +12,8 @@ use Rattle.md_world.proofs.Lookups.{by_test, at_own, at_front, passing, table_fi
 use Rattle.md_world.proofs.Tables.{table_without_path, table_after}
 use Rattle.md_world.proofs.Applied.{lists-paths_of, added_of, changed_of, is_removed, at-added, at-changed, lists-removed}
 use Rattle.md_machine.specs.declared.Spec.{Spec}
-use Rattle.md_machine.specs.Answers.{keeps, answer, diff}
+use Rattle.md_match.specs.Conditions.{passes}
+use Rattle.md_machine.specs.Answers.{condition_of, answer, diff}
 use Rattle.md_machine.specs.States.{Stamp, stamp_at, with_stamp}
 use Rattle.md_machine.proofs.Keys.{some_not_none}
 use Rattle.md_machine.proofs.Keeping.{answer_ordered}
@@ -70,7 +71,7 @@ answer_stamped : (stamps : List Stamp) (spec : Spec) (rows : List Row) → IsSta
 answer_stamped stamps spec rows h =
     record {
       ordered = answer_ordered spec rows h.ordered;
-      stamped = λ p none. at-answer spec rows p h.ordered ∙ ap (passing (keeps spec)) (h.stamped p none);
+      stamped = λ p none. at-answer spec rows p h.ordered ∙ ap (passing (passes (condition_of spec))) (h.stamped p none);
     }
 
 -- without the rows of a path its stamp is not needed

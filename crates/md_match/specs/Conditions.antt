@@ -25,5 +25,5 @@ condition_code =
     (λ _. refl)
 
 -- whether the row's path is inside the scope and its attributes satisfy the expression
-abbrev pub passes : Condition → Row → Bool
+unfoldable pub passes : Condition → Row → Bool
 passes c row = is_inside row.path c.scope && satisfies c.moment c.offset c.expr row.attrs

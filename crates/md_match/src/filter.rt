@@ -104,6 +104,7 @@ impl Filter {
     }
 
     /// Whether the row's path is inside the scope and its attributes satisfy the expression.
+    #[tactic(auto, unfolding(crate::specs::Conditions::passes))]
     pub fn test(&self, alloc: Global, row: &Row) -> Result<bool, AllocError>
         ensures { IfOk result (λ is. is ≡ passes self.now row.now) }
     {

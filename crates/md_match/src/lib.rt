@@ -11,4 +11,3 @@ mod wanted;
 
 pub use filter::{Filter, FilterError};
 pub use forms::first_out_of_range;
-

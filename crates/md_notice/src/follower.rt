@@ -1,9 +1,8 @@
 // What a client holds, in order.
 ghost use Rattle.std.specs.Prelude.{◌≡◌, ◌==◌, [], false, true, length, slice_get, OnOk, OnErr, MatchOption};
 ghost use Rattle.std.specs.Option.{option_copied, option_map};
-ghost use Rattle.md_world.specs.Tables.{has_path};
+ghost use Rattle.md_world.specs.Tables.{has_path, has_at};
 ghost use Rattle.md_world.specs.Holding.{after_part, after_notice};
-ghost use Rattle.md_sort.specs.Kept.{has_at};
 ghost use Rattle.md_notice.specs.Following.{Follows, values_at};
 
 use crate::apply;

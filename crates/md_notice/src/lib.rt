@@ -5,4 +5,3 @@ mod apply;
 mod follower;
 
 pub use follower::Follower;
-

@@ -6,8 +6,7 @@ use Rattle.std.proofs.lemmas.List.{take_more, map-append}
 use Rattle.std.proofs.lemmas.List.Elements.{filter-append}
 use Rattle.std.proofs.lemmas.Option.{slice_get_within, unwrap_or-slice_get}
 use Rattle.md_value.specs.Values.{is_same}
-use Rattle.md_value.specs.Attrs.{Attr, without_name}
-use Rattle.md_print.specs.Attributes.{text_content}
+use Rattle.md_value.specs.Attrs.{Attr, without_name, text_content}
 
 -- the names of all attributes but the text of the whole file
 abbrev names_of : List Attr → List (List ℕ)

@@ -7,14 +7,10 @@ use Rattle.std.proofs.Math.ListN.{replicate}
 use Rattle.md_value.specs.declared.value.Value.{Value}
 use Rattle.md_value.specs.declared.value.Value.TheVariants as value
 use Rattle.md_value.specs.Values.{is_same}
-use Rattle.md_value.specs.Attrs.{Attr, get, without_name}
+use Rattle.md_value.specs.Attrs.{Attr, get, without_name, text_content}
 use Rattle.md_value.specs.Schema.{rule_of}
 use Rattle.md_time.specs.Printed.{moment_text}
 use Rattle.md_print.specs.Paths.{escape}
-
--- the attribute that is never printed: the text of the whole file
-unfoldable pub text_content : List ℕ
-text_content = codes "kMDItemTextContent"
 
 -- the names that are printed: those asked for, in their order, or else those of all attributes
 abbrev pub printed_names : List Attr → List (List ℕ) → List (List ℕ)

@@ -1,7 +1,7 @@
 // The text of a file's attributes.
 ghost use Rattle.std.specs.Prelude.{◌≡◌, IfOk, string_bytes, map};
-ghost use Rattle.md_value.specs.Attrs.{without_name};
-ghost use Rattle.md_print.specs.Attributes.{attrs_text, printed_names, text_content};
+ghost use Rattle.md_value.specs.Attrs.{without_name, text_content};
+ghost use Rattle.md_print.specs.Attributes.{attrs_text, printed_names};
 
 use crate::fields::{is_text_content, push_lines, push_raw};
 use md_value::{Attrs, Name};

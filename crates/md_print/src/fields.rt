@@ -3,14 +3,14 @@ ghost use Rattle.std.specs.Prelude.{◌≡◌, ◌-◌, ◌++◌, OnOk, string_b
 ghost use Rattle.std.specs.Option.{option_map};
 ghost use Rattle.std.proofs.Math.ListN.{replicate};
 ghost use Rattle.md_value.specs.Values.{is_same};
-ghost use Rattle.md_print.specs.Attributes.{field_line, field_text, lines_text, longest, printed_values, raw_text, text_content};
+ghost use Rattle.md_value.specs.Attrs.{text_content};
+ghost use Rattle.md_print.specs.Attributes.{field_line, field_text, lines_text, longest, printed_values, raw_text};
 
 use crate::values::push_values;
 use md_value::{Attrs, Name, Value};
 use std::alloc::{AllocError, Global};
 
 /// Whether it names the text of the whole file, which is never printed.
-#[tactic(auto, unfolding(crate::specs::Attributes::text_content))]
 pub(crate) fn is_text_content(name: &Name) -> bool
     ensures { result ≡ is_same name.now text_content }
 {

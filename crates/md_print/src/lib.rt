@@ -10,4 +10,3 @@ mod values;
 pub use attributes::attrs_text;
 pub use escapes::{escaped, push_path, push_shown, shown_path};
 pub use faults::{Failure, failure_text, fault_text};
-

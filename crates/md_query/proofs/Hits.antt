@@ -7,12 +7,12 @@ use Rattle.md_world.specs.declared.Row.{Row}
 use Rattle.md_world.specs.Tables.{shown}
 use Rattle.md_match.specs.Conditions.{Condition, passes}
 use Rattle.md_machine.specs.declared.Spec.{Spec}
-use Rattle.md_machine.specs.Answers.{keeps, answer}
-use Rattle.md_query.specs.Rows.{rows_of, condition_of}
+use Rattle.md_machine.specs.Answers.{condition_of, answer}
+use Rattle.md_query.specs.Rows.{rows_of}
 
 -- what passes a spec's condition is the spec's answer
 pub passes_answer : (c : Condition) (spec : Spec) (rows : List Row) → c ≡ condition_of spec → filter (passes c) rows ≡ answer spec rows
-unfolding answer keeps
+unfolding answer
 passes_answer c spec rows e = ap (λ (d : Condition). filter (passes d) rows) e
 
 pub hits_left : (given : ℕ) (hits : List (Bor Row)) → drop given (rows_of hits) ≡ rows_of (drop (min given (length hits)) hits)

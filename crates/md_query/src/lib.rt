@@ -8,4 +8,3 @@ mod tables;
 pub use asking::{Answer, Ask, Effect};
 pub use query::Query;
 pub use tables::copy_rows;
-

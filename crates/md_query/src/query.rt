@@ -1,13 +1,13 @@
 // One query: what it answers when it is asked, and what that makes of it.
 ghost use Rattle.std.specs.Prelude.{◌≡◌, ℕ, ◌==◌, ◌≤◌, ◌<◌, ◌+◌, ◌^◌, IfOk, OnErr, Bool, true, false, take, drop, map, length};
-ghost use Rattle.md_machine.specs.Answers.{answer, shown_answer, diff, notice_of};
+ghost use Rattle.md_machine.specs.Answers.{answer, shown_answer, diff, notice_of, condition_of};
 ghost use Rattle.md_machine.specs.Laws.{hits_given};
 ghost use Rattle.md_machine.specs.Replies.{takes_memory};
 ghost use Rattle.md_machine.specs.States.{Gathering, Finished};
 ghost use Rattle.md_machine.specs.Steps.{disable, gather, enable, poll, last_part, next_part, most_hits};
 ghost use Rattle.md_world.specs.Tables.{shown};
 ghost use Rattle.md_world.specs.Differences.{items_of};
-ghost use Rattle.md_query.specs.Rows.{rows_of, condition_of};
+ghost use Rattle.md_query.specs.Rows.{rows_of};
 ghost use Rattle.md_query.specs.Standings.{query_of, nameless, is_finished};
 ghost use Rattle.md_query.specs.Asked.{newest_state, answered, settled};
 
@@ -52,7 +52,7 @@ impl Model for Query {
     ghost view = { λ q. record { spec = q.spec; phase = phase_of q.phase; base = q.base; rows = q.rows; disables = q.disables; delivered = q.delivered } };
 
     ghost use Rattle.std.specs.Prelude.{◌≡◌};
-    ghost use Rattle.md_query.specs.Rows.{condition_of};
+    ghost use Rattle.md_machine.specs.Answers.{condition_of};
 
     ghost invariant = { λ q. q.filter ≡ condition_of q.spec };
 }

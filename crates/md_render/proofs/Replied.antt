@@ -9,7 +9,7 @@ use Rattle.md_machine.specs.declared.Event.{Event}
 use Rattle.md_machine.specs.declared.Event.TheVariants as event
 use Rattle.md_machine.specs.Answers.{shown_answer}
 use Rattle.md_machine.specs.States.{Ticket, Stamp, Phase, Gathering, Finished, Query, State, ticket_at, stamp_at, query_at, queries_of}
-use Rattle.md_machine.specs.Steps.{Outcome, Answered, step, commit, commit_over, close, asked, stop, gather, gather_in, next_part, most_hits, disable, enable, enable_in, poll, poll_in, pending, is_due}
+use Rattle.md_machine.specs.Steps.{Outcome, Answered, step, commit, commit_over, close, outcome_of, stop, gather, gather_in, next_part, most_hits, disable, enable, enable_in, poll, poll_in, pending, is_due}
 use Rattle.md_machine.proofs.Lists.{by_cond}
 use Rattle.md_render.specs.Texts.{answers_commit, answers_close, answers_draw, answers_query, has_text}
 
@@ -45,7 +45,7 @@ poll_replies s q now Finished =
     by_cond Replies (nat_lt 0 q.disables) _ _ (λ _. refl)
     (λ _. by_cond Replies (is_due q.spec.batch (items_of (pending s q)) (now - q.delivered)) _ _ (λ _. refl) (λ _. refl))
 
-asked_answers : (s : State) (ask : Query → Answered) → ((q : Query) → Replies (ask q)) → (o : Option Query) → Answers (asked s ask o)
+asked_answers : (s : State) (ask : Query → Answered) → ((q : Query) → Replies (ask q)) → (o : Option Query) → Answers (outcome_of s ask o)
 asked_answers s ask replies None = refl
 asked_answers s ask replies (Some q) = replies q
 

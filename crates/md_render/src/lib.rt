@@ -10,4 +10,3 @@ mod replies;
 pub use entries::{entry_text, push_entry};
 pub use held::held_text;
 pub use md_print::escaped;
-

@@ -8,7 +8,7 @@ use Rattle.md_world.specs.declared.order.SortKey.{SortKey}
 use Rattle.md_script.specs.declared.options.Choice.{Choice}
 use Rattle.md_script.specs.declared.options.Choice.TheVariants as choice
 use Rattle.md_script.specs.declared.options.Options.{Options}
-use Rattle.md_script.specs.declared.options.TheConstants.{MOST_KEYS}
+use Rattle.md_script.specs.Limits.{most_keys}
 use Rattle.md_script.specs.Options.{scope_in, first_in, progress_in, update_in, ms_in, key_in, count_in, only_in, are_allowed, together, with_choice}
 
 -- choices that are allowed, kind by kind
@@ -18,7 +18,7 @@ pub record Allowed (choices : List Choice) : Type 0 where
   pub progress : nat_le (count_in progress_in choices) 1 ≡ true
   pub update : nat_le (count_in update_in choices) 1 ≡ true
   pub ms : nat_le (count_in ms_in choices) 1 ≡ true
-  pub keys : nat_le (count_in key_in choices) MOST_KEYS ≡ true
+  pub keys : nat_le (count_in key_in choices) most_keys ≡ true
 
 both : (a b : Bool) → (a && b) ≡ true → (a ≡ true) × (b ≡ true)
 both true b h = (refl, h)
@@ -26,7 +26,7 @@ both false b h = cc
 
 pub by_kind : (cs : List Choice) → are_allowed cs ≡ true → Allowed cs
 by_kind cs h =
-    let f = both (nat_le (count_in scope_in cs) 1 && nat_le (count_in first_in cs) 1 && nat_le (count_in progress_in cs) 1 && nat_le (count_in update_in cs) 1 && nat_le (count_in ms_in cs) 1) (nat_le (count_in key_in cs) MOST_KEYS) h in
+    let f = both (nat_le (count_in scope_in cs) 1 && nat_le (count_in first_in cs) 1 && nat_le (count_in progress_in cs) 1 && nat_le (count_in update_in cs) 1 && nat_le (count_in ms_in cs) 1) (nat_le (count_in key_in cs) most_keys) h in
     let e = both (nat_le (count_in scope_in cs) 1 && nat_le (count_in first_in cs) 1 && nat_le (count_in progress_in cs) 1 && nat_le (count_in update_in cs) 1) (nat_le (count_in ms_in cs) 1) f.0 in
     let d = both (nat_le (count_in scope_in cs) 1 && nat_le (count_in first_in cs) 1 && nat_le (count_in progress_in cs) 1) (nat_le (count_in update_in cs) 1) e.0 in
     let c = both (nat_le (count_in scope_in cs) 1 && nat_le (count_in first_in cs) 1) (nat_le (count_in progress_in cs) 1) d.0 in
@@ -46,7 +46,7 @@ fewer kind most xs ys h =
 allowed_front : (xs ys : List Choice) → are_allowed (xs ++ ys) ≡ true → are_allowed xs ≡ true
 allowed_front xs ys h =
     let a = by_kind (xs ++ ys) h in
-    all_six _ _ _ _ _ _ (fewer scope_in 1 xs ys a.scope) (fewer first_in 1 xs ys a.first) (fewer progress_in 1 xs ys a.progress) (fewer update_in 1 xs ys a.update) (fewer ms_in 1 xs ys a.ms) (fewer key_in MOST_KEYS xs ys a.keys)
+    all_six _ _ _ _ _ _ (fewer scope_in 1 xs ys a.scope) (fewer first_in 1 xs ys a.first) (fewer progress_in 1 xs ys a.progress) (fewer update_in 1 xs ys a.update) (fewer ms_in 1 xs ys a.ms) (fewer key_in most_keys xs ys a.keys)
 
 not_true : (b : Bool) → (b ≡ true → ⊥) → b ≡ false
 not_true true h = absurd (h refl)
@@ -72,8 +72,8 @@ single made (y ∷ []) x b few is = rw is refl
 single made (y ∷ z ∷ ys) x b few is = absurd (grind (arith, nat_tests, few))
 
 -- a key
-more_keys : (made : List SortKey → Options) (keys : List SortKey) (key : SortKey) (b : Bool) → nat_le (length keys) MOST_KEYS ≡ true → b ≡ nat_le (length (keys ++ key ∷ [])) MOST_KEYS
-    → (if length keys == MOST_KEYS then None else Some (made (keys ++ key ∷ []))) ≡ (if b then Some (made (keys ++ key ∷ [])) else None)
+more_keys : (made : List SortKey → Options) (keys : List SortKey) (key : SortKey) (b : Bool) → nat_le (length keys) most_keys ≡ true → b ≡ nat_le (length (keys ++ key ∷ [])) most_keys
+    → (if length keys == most_keys then None else Some (made (keys ++ key ∷ []))) ≡ (if b then Some (made (keys ++ key ∷ [])) else None)
 more_keys made keys key b few is =
     let longer : length (keys ++ key ∷ []) ≡ length keys + 1 = length-append keys (key ∷ []) in
     grind (arith, nat_tests, longer, few, is)

@@ -10,7 +10,8 @@ use Rattle.std.proofs.lemmas.Bool.Decides.{Decides-ltb, nat_tests}
 use Rattle.std.proofs.lemmas.Fmt.{IsAscii-from_digits}
 use Rattle.std.proofs.lemmas.Str.{IsUtf8-from_ascii, is_utf8-from_IsUtf8}
 use Rattle.std.proofs.lemmas.Str.Parse.{IsNumeralModel, tells_all_ascii_digits, numerals_by_value, parse_digits}
-use Rattle.md_script.specs.Words.{is_numeral, number_below, number_of}
+use Rattle.md_value.specs.Numerals.{is_numeral}
+use Rattle.md_script.specs.Words.{number_below, number_of}
 
 same_test : (ds : List ℕ) → all_ascii_digits ds ≡ list_all is_ascii_digit ds
 same_test [] = refl

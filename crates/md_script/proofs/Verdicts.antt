@@ -3,7 +3,7 @@ use Rattle.std.proofs.Common.{◌≡◌, ◌≢◌, ℕ, ◌<◌, ◌≤◌, ◌
 use Rattle.std.specs.Str.Lines.{lines}
 use Rattle.std.proofs.lemmas.Bool.{ltb-true, ltb-false}
 use Rattle.std.proofs.lemmas.Bool.Decides.{Decides-ltb, nat_tests}
-use Rattle.md_script.specs.declared.read.TheConstants.{MOST_BYTES, MOST_LINES}
+use Rattle.md_script.specs.Limits.{most_bytes, most_lines}
 use Rattle.md_script.specs.declared.script.Line.{Line}
 use Rattle.md_script.specs.declared.script.ScriptError.TheVariants.{TooLong, TooManyLines, BadLine, Memory}
 use Rattle.md_script.specs.Scripts.{verdict, verdict_by, first_bad, statements, IsShort}
@@ -14,15 +14,15 @@ not_below a b h = grind (arith, nat_tests)
 
 -- what each cause makes of the verdict
 
-pub verdict-long : (bytes : List ℕ) → MOST_BYTES < length bytes → verdict bytes ≡ Err TooLong
+pub verdict-long : (bytes : List ℕ) → most_bytes < length bytes → verdict bytes ≡ Err TooLong
 unfolding verdict
-verdict-long bytes h = let long : nat_lt MOST_BYTES (length bytes) ≡ true = (Decides-ltb MOST_BYTES (length bytes)).1 h in rw long refl
+verdict-long bytes h = let long : nat_lt most_bytes (length bytes) ≡ true = (Decides-ltb most_bytes (length bytes)).1 h in rw long refl
 
-pub verdict-many : (bytes : List ℕ) → length bytes ≤ MOST_BYTES → MOST_LINES < length (lines bytes) → verdict bytes ≡ Err TooManyLines
+pub verdict-many : (bytes : List ℕ) → length bytes ≤ most_bytes → most_lines < length (lines bytes) → verdict bytes ≡ Err TooManyLines
 unfolding verdict
 verdict-many bytes short h =
-    let long = not_below MOST_BYTES (length bytes) short in
-    let many : nat_lt MOST_LINES (length (lines bytes)) ≡ true = (Decides-ltb MOST_LINES (length (lines bytes))).1 h in
+    let long = not_below most_bytes (length bytes) short in
+    let many : nat_lt most_lines (length (lines bytes)) ≡ true = (Decides-ltb most_lines (length (lines bytes))).1 h in
     rw long (rw many refl)
 
 by_lines : (o : Option ℕ) (left : List Line) → verdict_by false false o left ≡ outcome_by [] left o
@@ -30,11 +30,11 @@ by_lines (Some number) left = refl
 by_lines None left = refl
 
 -- the verdict on a short script is the outcome of its lines
-pub verdict-short : (bytes : List ℕ) → length bytes ≤ MOST_BYTES → length (lines bytes) ≤ MOST_LINES → outcome [] 1 0 (lines bytes) ≡ verdict bytes
+pub verdict-short : (bytes : List ℕ) → length bytes ≤ most_bytes → length (lines bytes) ≤ most_lines → outcome [] 1 0 (lines bytes) ≡ verdict bytes
 unfolding verdict outcome
 verdict-short bytes short few =
-    let long = not_below MOST_BYTES (length bytes) short in
-    let many = not_below MOST_LINES (length (lines bytes)) few in
+    let long = not_below most_bytes (length bytes) short in
+    let many = not_below most_lines (length (lines bytes)) few in
     ap (λ (left : List Line). outcome_by [] left (first_bad bytes)) (timed_all bytes) ∙ rw long (rw many (sym (by_lines (first_bad bytes) (statements bytes))))
 
 -- what each verdict says of the causes
@@ -69,28 +69,28 @@ no_memory false true bad said e = cc
 no_memory false false (Some n) said e = cc
 no_memory false false None said e = cc
 
-pub too_long_lem : (bytes : List ℕ) → (verdict bytes ≡ Err TooLong) ↔ (MOST_BYTES < length bytes)
+pub too_long_lem : (bytes : List ℕ) → (verdict bytes ≡ Err TooLong) ↔ (most_bytes < length bytes)
 unfolding verdict
-too_long_lem bytes = (λ e. ltb-true MOST_BYTES (length bytes) (long_of (nat_lt MOST_BYTES (length bytes)) (nat_lt MOST_LINES (length (lines bytes))) (first_bad bytes) (statements bytes) e), verdict-long bytes)
+too_long_lem bytes = (λ e. ltb-true most_bytes (length bytes) (long_of (nat_lt most_bytes (length bytes)) (nat_lt most_lines (length (lines bytes))) (first_bad bytes) (statements bytes) e), verdict-long bytes)
 
-pub too_many_lem : (bytes : List ℕ) → (verdict bytes ≡ Err TooManyLines) ↔ ((length bytes ≤ MOST_BYTES) × (MOST_LINES < length (lines bytes)))
+pub too_many_lem : (bytes : List ℕ) → (verdict bytes ≡ Err TooManyLines) ↔ ((length bytes ≤ most_bytes) × (most_lines < length (lines bytes)))
 unfolding verdict
-too_many_lem bytes = (λ e. let told = many_of (nat_lt MOST_BYTES (length bytes)) (nat_lt MOST_LINES (length (lines bytes))) (first_bad bytes) (statements bytes) e in (ltb-false MOST_BYTES (length bytes) told.0, ltb-true MOST_LINES (length (lines bytes)) told.1), λ h. verdict-many bytes h.0 h.1)
+too_many_lem bytes = (λ e. let told = many_of (nat_lt most_bytes (length bytes)) (nat_lt most_lines (length (lines bytes))) (first_bad bytes) (statements bytes) e in (ltb-false most_bytes (length bytes) told.0, ltb-true most_lines (length (lines bytes)) told.1), λ h. verdict-many bytes h.0 h.1)
 
 pub bad_line_lem : (bytes : List ℕ) (n : ℕ) → (verdict bytes ≡ Err (BadLine n)) ↔ (IsShort bytes × (first_bad bytes ≡ Some n))
 unfolding verdict
-bad_line_lem bytes n = (λ e. let told = bad_of (nat_lt MOST_BYTES (length bytes)) (nat_lt MOST_LINES (length (lines bytes))) (first_bad bytes) (statements bytes) n e in (record { bytes = ltb-false MOST_BYTES (length bytes) told.0; lines = ltb-false MOST_LINES (length (lines bytes)) told.1 }, told.2), back)
+bad_line_lem bytes n = (λ e. let told = bad_of (nat_lt most_bytes (length bytes)) (nat_lt most_lines (length (lines bytes))) (first_bad bytes) (statements bytes) n e in (record { bytes = ltb-false most_bytes (length bytes) told.0; lines = ltb-false most_lines (length (lines bytes)) told.1 }, told.2), back)
   where
     back : IsShort bytes × (first_bad bytes ≡ Some n) → verdict bytes ≡ Err (BadLine n)
-    back h = let long = not_below MOST_BYTES (length bytes) h.0.bytes in let many = not_below MOST_LINES (length (lines bytes)) h.0.lines in rw (long, many, h.1) refl
+    back h = let long = not_below most_bytes (length bytes) h.0.bytes in let many = not_below most_lines (length (lines bytes)) h.0.lines in rw (long, many, h.1) refl
 
 pub accepted_lem : (bytes : List ℕ) (s : List Line) → (verdict bytes ≡ Ok s) ↔ (IsShort bytes × (first_bad bytes ≡ None) × (s ≡ statements bytes))
 unfolding verdict
-accepted_lem bytes s = (λ e. let told = said_of (nat_lt MOST_BYTES (length bytes)) (nat_lt MOST_LINES (length (lines bytes))) (first_bad bytes) (statements bytes) s e in (record { bytes = ltb-false MOST_BYTES (length bytes) told.0; lines = ltb-false MOST_LINES (length (lines bytes)) told.1 }, told.2, told.3), back)
+accepted_lem bytes s = (λ e. let told = said_of (nat_lt most_bytes (length bytes)) (nat_lt most_lines (length (lines bytes))) (first_bad bytes) (statements bytes) s e in (record { bytes = ltb-false most_bytes (length bytes) told.0; lines = ltb-false most_lines (length (lines bytes)) told.1 }, told.2, told.3), back)
   where
     back : IsShort bytes × (first_bad bytes ≡ None) × (s ≡ statements bytes) → verdict bytes ≡ Ok s
-    back h = let long = not_below MOST_BYTES (length bytes) h.0.bytes in let many = not_below MOST_LINES (length (lines bytes)) h.0.lines in rw (long, many, h.1) (ap Ok (sym h.2))
+    back h = let long = not_below most_bytes (length bytes) h.0.bytes in let many = not_below most_lines (length (lines bytes)) h.0.lines in rw (long, many, h.1) (ap Ok (sym h.2))
 
 pub memory_lem : (bytes : List ℕ) → verdict bytes ≢ Err Memory
 unfolding verdict
-memory_lem bytes e = no_memory (nat_lt MOST_BYTES (length bytes)) (nat_lt MOST_LINES (length (lines bytes))) (first_bad bytes) (statements bytes) e
+memory_lem bytes e = no_memory (nat_lt most_bytes (length bytes)) (nat_lt most_lines (length (lines bytes))) (first_bad bytes) (statements bytes) e

@@ -5,3 +5,4 @@ pub mod Options
 pub mod Query
 pub mod Grammar
 pub mod Scripts
+pub mod Limits

@@ -7,7 +7,7 @@ use Rattle.md_world.specs.declared.order.SortKey.{SortKey}
 use Rattle.md_script.specs.declared.options.Choice.{Choice}
 use Rattle.md_script.specs.declared.options.Choice.TheVariants as choice
 use Rattle.md_script.specs.declared.options.Options.{Options}
-use Rattle.md_script.specs.declared.options.TheConstants.{MOST_KEYS}
+use Rattle.md_script.specs.Limits.{most_keys}
 use Rattle.md_script.specs.Lines.{spaced}
 use Rattle.md_script.specs.Words.{number_of, folder_of}
 
@@ -88,7 +88,7 @@ only_in kind choices = slice_get (filter_map kind choices) 0
 abbrev pub are_allowed : List Choice → Bool
 are_allowed choices =
     nat_le (count_in scope_in choices) 1 && nat_le (count_in first_in choices) 1 && nat_le (count_in progress_in choices) 1
-    && nat_le (count_in update_in choices) 1 && nat_le (count_in ms_in choices) 1 && nat_le (count_in key_in choices) MOST_KEYS
+    && nat_le (count_in update_in choices) 1 && nat_le (count_in ms_in choices) 1 && nat_le (count_in key_in choices) most_keys
 
 -- what the choices say together: of each kind the only one, and the keys in their order
 abbrev pub together : List Choice → Options
@@ -122,4 +122,4 @@ with_choice o (choice.First k) = if is_some o.first then None else Some (record 
 with_choice o (choice.Progress k) = if is_some o.progress then None else Some (record o { progress = Some k })
 with_choice o (choice.Update k) = if is_some o.update then None else Some (record o { update = Some k })
 with_choice o (choice.Ms k) = if is_some o.ms then None else Some (record o { ms = Some k })
-with_choice o (choice.By key) = if length o.keys == MOST_KEYS then None else Some (record o { keys = o.keys ++ key ∷ [] })
+with_choice o (choice.By key) = if length o.keys == most_keys then None else Some (record o { keys = o.keys ++ key ∷ [] })

@@ -3,7 +3,7 @@ use Rattle.std.specs.Prelude.{ℕ, ◌≤◌, ◌-◌, nat_lt, Bool, true, false
 use Rattle.std.specs.Option.{option_map}
 use Rattle.std.specs.List.{filter_map, enumerate_from, position_from, last_or}
 use Rattle.std.specs.Str.Lines.{lines}
-use Rattle.md_script.specs.declared.read.TheConstants.{MOST_BYTES, MOST_LINES}
+use Rattle.md_script.specs.Limits.{most_bytes, most_lines}
 use Rattle.md_script.specs.declared.grammar.Meaning.{Meaning}
 use Rattle.md_script.specs.declared.grammar.Meaning.TheVariants as meaning
 use Rattle.md_script.specs.declared.script.What.{What}
@@ -44,8 +44,8 @@ statements bytes = filter_map (numbered (lines bytes)) (enumerate_from 1 (lines 
 
 -- within the most bytes and the most lines
 pub record IsShort (script : List ℕ) : Type 0 where
-  pub bytes : length script ≤ MOST_BYTES
-  pub lines : length (lines script) ≤ MOST_LINES
+  pub bytes : length script ≤ most_bytes
+  pub lines : length (lines script) ≤ most_lines
 
 -- by whether there are too many bytes, too many lines, and which line is bad
 abbrev pub verdict_by : Bool → Bool → Option ℕ → List Line → Result (List Line) ScriptError
@@ -56,4 +56,4 @@ verdict_by false false None read = Ok read
 
 -- the lines of the script that say something, or the cause for which it is refused
 unfoldable pub verdict : List ℕ → Result (List Line) ScriptError
-verdict bytes = verdict_by (nat_lt MOST_BYTES (length bytes)) (nat_lt MOST_LINES (length (lines bytes))) (first_bad bytes) (statements bytes)
+verdict bytes = verdict_by (nat_lt most_bytes (length bytes)) (nat_lt most_lines (length (lines bytes))) (first_bad bytes) (statements bytes)

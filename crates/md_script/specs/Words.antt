@@ -2,19 +2,15 @@
 use Rattle.std.specs.Prelude.{ℕ, ◌==◌, ◌^◌, nat_lt, Bool, not, ◌&&◌, if◌then◌else◌, List, [], ◌∷◌, length, Option, Some, None}
 use Rattle.std.specs.Option.{option_and_then}
 use Rattle.std.specs.Result.{result_ok}
-use Rattle.std.specs.List.{list_all, list_any}
-use Rattle.std.specs.Char.{is_ascii_digit}
+use Rattle.std.specs.List.{list_any}
 use Rattle.std.specs.Str.{is_utf8}
 use Rattle.std.specs.Str.Parse.{digits_value}
+use Rattle.md_value.specs.Numerals.{is_numeral}
 use Rattle.md_value.specs.Path.{is_bad, normal}
 use Rattle.md_expr_tree.specs.declared.tree.Expr.{Expr}
 use Rattle.md_expr.specs.Outcome.{outcome}
 use Rattle.md_script.specs.Lines.{is_space}
 use Rattle.md_script.specs.Escapes.{unescaped}
-
--- one digit or more, and nothing else
-abbrev pub is_numeral : List ℕ → Bool
-is_numeral text = not (length text == 0) && list_all is_ascii_digit text
 
 -- the number that digits write, where it is below the limit
 unfoldable pub number_below : ℕ → List ℕ → Option ℕ

@@ -2,14 +2,14 @@
 ghost use Rattle.std.specs.Prelude.{◌≡◌, ◌≢◌, ℕ, ◌<◌, ◌≤◌, ◌↔◌, List, length, Some, None, Ok, Err};
 ghost use Rattle.std.specs.Str.Lines.{lines};
 ghost use Rattle.md_script.specs.Scripts.{verdict, first_bad, statements, IsShort};
-ghost use Rattle.md_script.specs.declared.read.TheConstants.{MOST_BYTES, MOST_LINES};
+ghost use Rattle.md_script.specs.Limits.{most_bytes, most_lines};
 ghost use Rattle.md_script.specs.declared.script.Line.{Line};
 ghost use Rattle.md_script.specs.declared.script.ScriptError.TheVariants.{TooLong, TooManyLines, BadLine, Memory};
 
 /// For every script, the causes of a refusal exclude each other and acceptance, and one of them stands.
 pub fn one_reading()
-    ensures too_long { (bytes : List ℕ) → (verdict bytes ≡ Err TooLong) ↔ (MOST_BYTES < length bytes) }
-    ensures too_many_lines { (bytes : List ℕ) → (verdict bytes ≡ Err TooManyLines) ↔ ((length bytes ≤ MOST_BYTES) × (MOST_LINES < length (lines bytes))) }
+    ensures too_long { (bytes : List ℕ) → (verdict bytes ≡ Err TooLong) ↔ (most_bytes < length bytes) }
+    ensures too_many_lines { (bytes : List ℕ) → (verdict bytes ≡ Err TooManyLines) ↔ ((length bytes ≤ most_bytes) × (most_lines < length (lines bytes))) }
     ensures bad_line { (bytes : List ℕ) (number : ℕ) → (verdict bytes ≡ Err (BadLine number)) ↔ (IsShort bytes × (first_bad bytes ≡ Some number)) }
     ensures accepted { (bytes : List ℕ) (read : List Line) → (verdict bytes ≡ Ok read) ↔ (IsShort bytes × (first_bad bytes ≡ None) × (read ≡ statements bytes)) }
     // Want of memory is no verdict.

@@ -17,4 +17,3 @@ pub use laws::one_reading;
 pub use options::MOST_KEYS;
 pub use read::{MOST_BYTES, MOST_LINES, read_script};
 pub use script::{Line, Script, ScriptError, What};
-

@@ -6,7 +6,8 @@ ghost use Rattle.std.specs.Char.{is_ascii_digit};
 ghost use Rattle.std.specs.Str.{is_utf8};
 ghost use Rattle.md_value.specs.Path.{normal};
 ghost use Rattle.md_script.specs.Lines.{is_space};
-ghost use Rattle.md_script.specs.Words.{is_numeral, number_below, client_of, number_of, is_path, folder_of, below_root, path_of, content_of, expression_of};
+ghost use Rattle.md_value.specs.Numerals.{is_numeral};
+ghost use Rattle.md_script.specs.Words.{number_below, client_of, number_of, is_path, folder_of, below_root, path_of, content_of, expression_of};
 
 use crate::Content;
 use crate::escapes::unescaped;

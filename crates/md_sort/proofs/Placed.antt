@@ -10,10 +10,10 @@ use Rattle.md_value.specs.Values.{PathBytes, is_same, is_before, same_equiv}
 use Rattle.md_value.proofs.Orders.{same_exact, same_sym_false, before_trans, before_not_same, before_not_back, before_else_after, itself_not_before}
 use Rattle.md_world.specs.declared.Row.{Row}
 use Rattle.md_world.specs.declared.order.SortKey.{SortKey}
-use Rattle.md_world.specs.Tables.{rows_before, rows_after, with_row, without_path, has_path}
+use Rattle.md_world.specs.Tables.{rows_before, rows_after, with_row, without_path, has_path, has_at}
 use Rattle.md_world.specs.Orders.{row_before, IsOrdered, with_placed, IsInOrder}
 use Rattle.md_world.proofs.Lookups.{by_test}
-use Rattle.md_sort.specs.Kept.{PathsDiffer, AreKept, has_at}
+use Rattle.md_sort.specs.Kept.{PathsDiffer, AreKept}
 use Rattle.md_sort.proofs.Totals.{row_before_trans, row_not_back, row_else_after}
 
 -- no row has the path

@@ -12,10 +12,10 @@ use Rattle.md_value.specs.Values.{PathBytes, is_same, is_before}
 use Rattle.md_value.proofs.Orders.{same_refl, same_exact}
 use Rattle.md_world.specs.declared.Row.{Row}
 use Rattle.md_world.specs.declared.order.SortKey.{SortKey}
-use Rattle.md_world.specs.Tables.{has_path, without_path, same_row}
+use Rattle.md_world.specs.Tables.{has_path, without_path, same_row, has_at}
 use Rattle.md_world.specs.Orders.{row_before, IsOrdered, IsInOrder, with_placed}
 use Rattle.md_world.proofs.Lookups.{by_test, row_exact}
-use Rattle.md_sort.specs.Kept.{PathsDiffer, AreKept, has_at}
+use Rattle.md_sort.specs.Kept.{PathsDiffer, AreKept}
 use Rattle.md_sort.specs.Slots.{row_or_empty, rows_at, AllHeld, passes, AreIndexed}
 use Rattle.md_sort.proofs.Totals.{row_not_back}
 use Rattle.md_sort.proofs.Placed.{AreApart, all_at, differ_permuted, apart_without, apart_from, inserted, placed_ordered, placed_permuted, removed, without_kept, none_kept, ordered_filter, before_path}

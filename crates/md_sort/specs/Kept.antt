@@ -1,7 +1,6 @@
 -- Rows that are kept in order.
-use Rattle.std.specs.Prelude.{◌≡◌, ℕ, ◌<◌, Bool, false, List, slice_get}
+use Rattle.std.specs.Prelude.{◌≡◌, ℕ, ◌<◌, false, List}
 use Rattle.std.specs.List.{IsDistinct}
-use Rattle.std.specs.Option.{option_map_or}
 use Rattle.md_value.specs.Values.{PathBytes, is_same}
 use Rattle.md_world.specs.declared.Row.{Row}
 use Rattle.md_world.specs.declared.order.SortKey.{SortKey}
@@ -22,10 +21,6 @@ PathsDiffer rows = IsDistinct (λ (a b : Row). is_same a.path b.path) rows
 pub record AreKept (order : List SortKey) (rows : List Row) : Type 0 where
   pub distinct : PathsDiffer rows
   pub ordered : IsOrdered order rows
-
--- whether the row at the place has the path
-abbrev pub has_at : List Row → ℕ → PathBytes → Bool
-has_at rows place path = option_map_or (λ row. is_same row.path path) (slice_get rows place) false
 
 -- a row of the path is kept already, or there is room for one more
 abbrev pub HasRoom : Kept → PathBytes → Type 0

@@ -5,9 +5,9 @@ ghost use Rattle.std.specs.List.Sorted.{IsPermutation};
 ghost use Rattle.std.specs.Option.{option_copied, is_some};
 ghost use Rattle.slab.specs.Slab.{get};
 ghost use Rattle.md_value.specs.Values.{PathBytes, is_before};
-ghost use Rattle.md_world.specs.Tables.{has_path, with_row, without_path};
+ghost use Rattle.md_world.specs.Tables.{has_path, with_row, without_path, has_at};
 ghost use Rattle.md_world.specs.Orders.{row_before, IsOrdered, IsInOrder, with_placed};
-ghost use Rattle.md_sort.specs.Kept.{PathsDiffer, has_at};
+ghost use Rattle.md_sort.specs.Kept.{PathsDiffer};
 ghost use Rattle.md_sort.specs.Slots.{row_or_empty, rows_at, AllHeld, passes, AreIndexed, room_in};
 
 use crate::compare::row_before;

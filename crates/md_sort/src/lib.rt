@@ -10,4 +10,3 @@ mod sorted;
 
 pub use laws::one_order;
 pub use sorted::Sorted;
-

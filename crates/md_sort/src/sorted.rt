@@ -1,9 +1,9 @@
 // Rows in order, as one value.
 ghost use Rattle.std.specs.Prelude.{◌≡◌, ◌+◌, ◌≤◌, ◌<◌, ◌==◌, [], true, false, length, slice_get, OnOk, OnErr, MatchOption};
 ghost use Rattle.std.specs.Option.{option_copied};
-ghost use Rattle.md_world.specs.Tables.{has_path, with_row, without_path};
+ghost use Rattle.md_world.specs.Tables.{has_path, with_row, without_path, has_at};
 ghost use Rattle.md_world.specs.Orders.{IsInOrder};
-ghost use Rattle.md_sort.specs.Kept.{HasRoom, has_at};
+ghost use Rattle.md_sort.specs.Kept.{HasRoom};
 
 use crate::index;
 use crate::paged::SlotList;

@@ -8,7 +8,7 @@ use Rattle.std.proofs.lemmas.List.Kept.{AllPairs-cons}
 use Rattle.std.proofs.lemmas.List.Sums.{AllPass-from_list_all}
 use Rattle.md_value.specs.Values.{is_before, IsMoment}
 use Rattle.md_value.specs.Path.{is_inside}
-use Rattle.md_value.specs.declared.value.TheConstants.{LOW, HIGH}
+use Rattle.md_value.specs.Values.{first_moment, last_moment}
 use Rattle.md_value.proofs.Orders.{before_trans, itself_not_before}
 use Rattle.md_source.specs.Listing.{is_file, is_below, is_ascending}
 use Rattle.md_source.specs.Tree.{File, IsListing, entries_of}
@@ -52,9 +52,9 @@ named (b ∷ path) none same = cc
 -- what the tests say of one entry
 is_file-parts : (entry : Entry) → is_file entry ≡ true → (entry.path ≢ []) × IsMoment entry.changed
 is_file-parts entry file =
-    let parts = and_parts (not (length entry.path == 0)) (int_le LOW entry.changed && int_le entry.changed HIGH) file in
-    let moment = and_parts (int_le LOW entry.changed) (int_le entry.changed HIGH) parts.1 in
-    (named entry.path parts.0, (within LOW entry.changed moment.0, within entry.changed HIGH moment.1))
+    let parts = and_parts (not (length entry.path == 0)) (int_le first_moment entry.changed && int_le entry.changed last_moment) file in
+    let moment = and_parts (int_le first_moment entry.changed) (int_le entry.changed last_moment) parts.1 in
+    (named entry.path parts.0, (within first_moment entry.changed moment.0, within entry.changed last_moment moment.1))
 
 is_below-parts : (folder : List ℕ) (entry : Entry) → is_below folder entry ≡ true → (is_inside entry.path folder ≡ true) × ((entry.path ≢ []) × IsMoment entry.changed)
 is_below-parts folder entry below =

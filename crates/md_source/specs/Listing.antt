@@ -3,13 +3,13 @@ use Rattle.std.specs.Prelude.{◌==◌, Bool, true, not, ◌&&◌, List, [], ◌
 use Rattle.std.specs.List.{list_all}
 use Rattle.md_value.specs.Values.{PathBytes, is_before}
 use Rattle.md_value.specs.Path.{is_inside}
-use Rattle.md_value.specs.declared.value.TheConstants.{LOW, HIGH}
+use Rattle.md_value.specs.Values.{first_moment, last_moment}
 use Rattle.md_source.specs.declared.tree.Entry.{Entry}
 use Rattle.md_source.specs.Tree.{Content, entries_of, has_folder}
 
 -- not the root, and changed at a moment
 abbrev pub is_file : Entry → Bool
-is_file entry = not (length entry.path == 0) && (int_le LOW entry.changed && int_le entry.changed HIGH)
+is_file entry = not (length entry.path == 0) && (int_le first_moment entry.changed && int_le entry.changed last_moment)
 
 -- a file below the folder
 abbrev pub is_below : PathBytes → Entry → Bool

@@ -31,4 +31,3 @@ pub use source::{Source, SourceEnd, read_all};
 pub use sure::{SureSink, SureSource};
 pub use sure_tree::SureTree;
 pub use tree::{Entry, ListEnd, ReadEnd, Tree};
-

@@ -5,4 +5,3 @@ mod printed;
 mod summaries;
 
 pub use summaries::summarize;
-

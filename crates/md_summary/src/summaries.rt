@@ -1,5 +1,7 @@
 // The summary of a generated run.
 ghost use Rattle.std.specs.Prelude.{◌≡◌, ◌≤◌, ◌∷◌, [], IfOk, Ok, codes, length, string_bytes};
+ghost use Rattle.md_gen.specs.Files.{most_made};
+ghost use Rattle.md_script.specs.Limits.{most_lines};
 ghost use Rattle.md_script.specs.Scripts.{verdict};
 ghost use Rattle.md_summary.specs.Summary.{Summarizes};
 
@@ -39,7 +41,7 @@ fn folders(alloc: Global) -> Result<Vec<Path>, AllocError>
 // reason, this would answer want of memory.
 fn read(alloc: Global, text: &str) -> Result<Script, AllocError>
     ensures script { IfOk result (λ script. verdict text.now ≡ Ok script) }
-    ensures few { IfOk result (λ script. length script ≤ 100_000) }
+    ensures few { IfOk result (λ script. length script ≤ most_lines) }
 {
     match read_script(alloc, text.as_bytes()) {
         Ok(script) => Ok(script),
@@ -52,7 +54,7 @@ fn read(alloc: Global, text: &str) -> Result<Script, AllocError>
 /// number, and `held` with the numbers of rows that the clients 0 to 7 hold at the end. Fails only where memory runs out.
 pub fn summarize(alloc: Global, start: u64, count: u32) -> Result<String, AllocError>
     requires some { 1 ≤ count }
-    requires most { count ≤ 10_000 }
+    requires most { count ≤ most_made }
     ensures { IfOk result (λ text. Summarizes start count (string_bytes text)) }
 {
     let made = make(alloc, start, count)?;

@@ -6,15 +6,12 @@ use Rattle.std.specs.Option.{option_and_then, option_map}
 use Rattle.jiff_core.specs.Calendar.{days_from_civil, weekday_number}
 use Rattle.md_time.specs.declared.form.Form.{Form}
 use Rattle.md_time.specs.declared.form.Form.TheVariants.{Now, Day, Week, Month, Year, Iso}
-use Rattle.md_time.specs.declared.range.TheConstants.{LOW, HIGH}
+use Rattle.md_value.specs.Values.{first_moment, last_moment}
 use Rattle.md_time.specs.IsoTexts.{looks_like, number_after, field, is_date_text, is_iso}
 
 -- from year 0001 to year 9999, in seconds since 1970 in UTC
 abbrev pub is_moment : ℤ → Bool
-is_moment z = not (int_lt z LOW) && not (int_lt HIGH z)
-
-abbrev pub IsMoment : ℤ → Type 0
-IsMoment z = (LOW ≤ℤ z) × (z ≤ℤ HIGH)
+is_moment z = not (int_lt z first_moment) && not (int_lt last_moment z)
 
 abbrev pub in_range : ℤ → Option ℤ
 in_range z = if is_moment z then Some z else None
@@ -62,7 +59,7 @@ year_of_number k = int_div_euclid k (pos 12)
 abbrev pub month_of_number : ℤ → ℕ
 month_of_number k = unsigned_abs (int_rem_euclid k (pos 12)) + 1
 
--- the first day of month k, where its year is from 1 to 9999: others begin before LOW or after HIGH
+-- the first day of month k, where its year is from 1 to 9999: others begin before year 0001 or after year 9999
 abbrev pub first_of_month : ℤ → Option ℤ
 first_of_month k =
     if not (int_lt (year_of_number k) (pos 1)) && not (int_lt (pos 9999) (year_of_number k))

@@ -3,7 +3,8 @@ ghost use Rattle.std.specs.Prelude.{◌≡◌, ◌≤◌, pos, neg_ℤ, ◌+ℤ�
 ghost use Rattle.jiff_core.specs.Calendar.{IsBetween, days_from_civil};
 ghost use Rattle.jiff_core.specs.Date.{epoch_day};
 ghost use Rattle.md_time.specs.IsoTexts.{is_calendar_date};
-ghost use Rattle.md_time.specs.Moments.{IsMoment, IsDay, day_of, first_second, monday_of, year_of, month_of, day_of_month, month_number, first_of_month, month_start};
+ghost use Rattle.md_value.specs.Values.{IsMoment};
+ghost use Rattle.md_time.specs.Moments.{IsDay, day_of, first_second, monday_of, year_of, month_of, day_of_month, month_number, first_of_month, month_start};
 
 use jiff_core::civil::Date;
 

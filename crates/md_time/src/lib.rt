@@ -13,5 +13,3 @@ pub use form::{Form, OutOfRange};
 pub use iso_moment::{NotDate, read_moment};
 pub use iso_text::IsoText;
 pub use print::print_moment;
-pub use range::{HIGH, LOW};
-

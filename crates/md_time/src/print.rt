@@ -1,6 +1,7 @@
 // Moments as they are printed.
 ghost use Rattle.std.specs.Prelude.{◌≡◌, ◌++◌, [], ◌∷◌, ◌<◌, ◌^◌, string_bytes, OnOk, IfOk};
-ghost use Rattle.md_time.specs.Moments.{IsMoment, IsDay, year_of, month_of, day_of_month};
+ghost use Rattle.md_value.specs.Values.{IsMoment};
+ghost use Rattle.md_time.specs.Moments.{IsDay, year_of, month_of, day_of_month};
 ghost use Rattle.md_time.specs.Printed.{digit, two_digits, four_digits, separated, date_text, time_text, second_of_day, moment_text};
 
 use crate::days::{calendar_date, day_of};

@@ -1,12 +1,9 @@
 // The range of moments.
 ghost use Rattle.std.specs.Prelude.{◌≡◌, pos, ◌+ℤ◌, ◌-ℤ◌, ◌*ℤ◌, unsigned_abs, ◌<◌, ◌^◌, IfSome};
-ghost use Rattle.md_time.specs.Moments.{in_range, to_moment, local, IsMoment};
+ghost use Rattle.md_value.specs.Values.{IsMoment};
+ghost use Rattle.md_time.specs.Moments.{in_range, to_moment, local};
 
-/// The first moment of year 0001, in seconds since 1970 in UTC.
-pub const LOW: i64 = -62_135_596_800;
-
-/// The last moment of year 9999.
-pub const HIGH: i64 = 253_402_300_799;
+use md_value::{HIGH, LOW};
 
 pub(crate) fn in_range(second: i128) -> Option<i64>
     ensures value { result ≡ in_range second }

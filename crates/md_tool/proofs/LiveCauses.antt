@@ -9,7 +9,7 @@ use Rattle.md_live.specs.Reports.{Runs}
 use Rattle.md_live.specs.TimeForms.{out_of_range}
 use Rattle.md_live.proofs.Ends.{runs_cause, runs_absent, runs_complete}
 use Rattle.md_value.specs.Values.{PathBytes}
-use Rattle.md_script.specs.declared.read.TheConstants.{MOST_BYTES}
+use Rattle.md_script.specs.Limits.{most_bytes}
 use Rattle.md_script.specs.declared.script.Line.{Line}
 use Rattle.md_script.specs.declared.script.ScriptError.{ScriptError}
 use Rattle.md_script.specs.declared.script.ScriptError.TheVariants as error
@@ -122,7 +122,7 @@ module _ (offset : ℤ) (bytes : List ℕ) (clock shown : Shown) (old new : File
   absent_answered content told _ (runs lines now r v shows asks) is = (lines, v, absent_of_lines now offset lines old new content told r asks is)
 
   whole_answered : (moment : ℤ) → clock.told ≡ Some moment → IsAccepted moment offset old.told bytes → ¬ (TreeFails old new) → ¬ (ClockFails clock shown)
-      → (r : Report) → Answers offset bytes clock shown old new r → (r.status ≡ status.Ok) × (length bytes ≤ MOST_BYTES)
+      → (r : Report) → Answers offset bytes clock shown old new r → (r.status ≡ status.Ok) × (length bytes ≤ most_bytes)
   whole_answered moment told accepted quiet kept _ (refuses e v same tree) = let wrong : Ok accepted.0 ≡ Err e = sym accepted.1 ∙ v in cc (wrong)
   whole_answered moment told accepted quiet kept _ (unclocked lines v rose tree) = absurd (kept rose)
   whole_answered moment told accepted quiet kept _ (runs lines now r v shows asks) =

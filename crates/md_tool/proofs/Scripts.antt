@@ -2,17 +2,17 @@
 use Rattle.std.proofs.Common.{◌≡◌, inl, inr, ℕ, ◌+◌, ◌<◌, ◌≤◌, List, length, take, Option, Some, None, IfSome, sym, ◌∙◌, ap, arith}
 use Rattle.std.proofs.lemmas.List.{take_all, length-take-le}
 use Rattle.std.proofs.lemmas.Bool.Decides.{leb_tells}
-use Rattle.md_script.specs.declared.read.TheConstants.{MOST_BYTES}
+use Rattle.md_script.specs.Limits.{most_bytes}
 use Rattle.md_script.specs.Scripts.{verdict}
 use Rattle.md_script.proofs.Verdicts.{verdict-long}
 use Rattle.md_tool.specs.Outside.{Bytes, IsRead}
 
 -- one byte past the most that a script has tells as much as all of it
-verdict_front : (left : List ℕ) → verdict (take (MOST_BYTES + 1) left) ≡ verdict left
+verdict_front : (left : List ℕ) → verdict (take (most_bytes + 1) left) ≡ verdict left
 verdict_front left =
-    elim (leb_tells (length left) MOST_BYTES) [
-      | inl h ↦ ap verdict (take_all (MOST_BYTES + 1) left (within MOST_BYTES (length left) h.1))
-      | inr h ↦ verdict-long _ (long MOST_BYTES left h.1) ∙ sym (verdict-long left h.1)
+    elim (leb_tells (length left) most_bytes) [
+      | inl h ↦ ap verdict (take_all (most_bytes + 1) left (within most_bytes (length left) h.1))
+      | inr h ↦ verdict-long _ (long most_bytes left h.1) ∙ sym (verdict-long left h.1)
     ]
   where
     within : (most n : ℕ) → n ≤ most → n ≤ most + 1
@@ -25,6 +25,6 @@ verdict_front left =
 pub told_verdict : (old new : Bytes) (bytes left : List ℕ) → IsRead old new bytes → old.told ≡ Some left → verdict bytes ≡ verdict left
 told_verdict old new bytes left taken told = ap verdict (told_by old.told told taken.told) ∙ verdict_front left
   where
-    told_by : (o : Option (List ℕ)) → o ≡ Some left → IfSome o (λ xs. bytes ≡ take (MOST_BYTES + 1) xs) → bytes ≡ take (MOST_BYTES + 1) left
+    told_by : (o : Option (List ℕ)) → o ≡ Some left → IfSome o (λ xs. bytes ≡ take (most_bytes + 1) xs) → bytes ≡ take (most_bytes + 1) left
     told_by None e h = cc
-    told_by (Some xs) e h = h ∙ ap (take (MOST_BYTES + 1)) (cc (e))
+    told_by (Some xs) e h = h ∙ ap (take (most_bytes + 1)) (cc (e))

@@ -5,7 +5,7 @@ use Rattle.md_value.specs.Values.{IsMoment}
 use Rattle.md_source.specs.Causes.{Rose}
 use Rattle.md_source.specs.Tree.{Content}
 use Rattle.md_source.specs.Puts.{PutsNothing, PutsWhole, PutsPart}
-use Rattle.md_script.specs.declared.read.TheConstants.{MOST_BYTES}
+use Rattle.md_script.specs.Limits.{most_bytes}
 
 -- the bytes that are left in a source, or that a sink has taken, where they are told; and how often it has failed
 pub record Bytes : Type 0 where
@@ -50,8 +50,8 @@ outputs err_taken err out_taken out =
 -- The bytes were read from a source to its end, or to one byte past the most that a script has.
 pub record IsRead (old new : Bytes) (bytes : List ℕ) : Type 0 where
   pub taken : Consumes old.told new.told bytes
-  pub end : length bytes ≤ MOST_BYTES → IsAtEnd new.told
-  pub told : IfSome old.told (λ left. bytes ≡ take (MOST_BYTES + 1) left)
+  pub end : length bytes ≤ most_bytes → IsAtEnd new.told
+  pub told : IfSome old.told (λ left. bytes ≡ take (most_bytes + 1) left)
   pub kept : new.faults ≡ old.faults
 
 -- The clock showed this moment, and did not fail.

@@ -6,6 +6,7 @@ use Rattle.md_expr_parse.specs.declared.read.ReadError.TheVariants as unread
 use Rattle.md_files.specs.Reports as files
 use Rattle.md_files.specs.declared.report.End.{End}
 use Rattle.md_files.specs.declared.report.End.TheVariants as ended
+use Rattle.md_find.specs.Folders.{most_files}
 use Rattle.md_find.specs.declared.finding.Found.{Found}
 use Rattle.md_find.specs.declared.finding.Found.TheVariants as found
 use Rattle.md_script.specs.declared.script.ScriptError.{ScriptError}
@@ -69,8 +70,12 @@ line_out_of_range line form =
 abbrev pub form_out_of_range : ℕ → Report
 form_out_of_range form = refusal status.Expression (codes "time form " ++ (decimal form ++ codes " out of range"))
 
+-- a folder that has too many files to be searched
+abbrev pub too_many_files : Report
+too_many_files = refusal status.Full (codes "more than " ++ (decimal most_files ++ codes " files"))
+
 -- what `mdfind` prints of what its search gives
 abbrev pub of_found : Found → Report
 of_found (found.Report made) = of_files made
-of_found found.Full = refusal status.Full (codes "more than 1000000 files")
+of_found found.Full = too_many_files
 of_found (found.OutOfRange form) = form_out_of_range form

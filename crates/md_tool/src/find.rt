@@ -3,7 +3,7 @@ ghost use Rattle.std.specs.Prelude.{◌≡◌, ℕ, Bool, List, Option, IsErr, I
 ghost use Rattle.std.specs.Option.{option_map};
 ghost use Rattle.md_expr_parse.specs.declared.read.ReadError.TheVariants.{Memory};
 ghost use Rattle.md_find.specs.Searches.{search_of};
-ghost use Rattle.md_tool.specs.Reports.{refused_text, form_out_of_range, of_found};
+ghost use Rattle.md_tool.specs.Reports.{refused_text, form_out_of_range, too_many_files, of_found};
 ghost use Rattle.md_words.specs.declared.command.Mode.{Mode};
 ghost use Rattle.md_words.specs.declared.command.Tool.TheVariants.{Find};
 ghost use Rattle.md_tool.specs.Outside.{Bytes, inputs};
@@ -13,7 +13,7 @@ ghost use Rattle.md_tool.specs.Causes.{TellsFirst};
 use crate::Status;
 use crate::report::{Report, no_clock, of_files, refusal};
 use md_expr::{Expr, ReadError};
-use md_find::{Found, Output, Search};
+use md_find::{Found, MOST_FILES, Output, Search};
 use md_source::{Clock, Tree};
 use md_value::{Copied, Path};
 use md_words::Word;
@@ -41,13 +41,21 @@ fn form_out_of_range(alloc: Global, form: u32) -> Result<Report, AllocError>
     refusal(alloc, Status::Expression, line.as_str())
 }
 
+fn too_many_files(alloc: Global) -> Result<Report, AllocError>
+    ensures { IfOk result (λ report. report ≡ too_many_files) }
+{
+    let most = MOST_FILES;
+    let line = format!(in alloc; "more than {most} files")?;
+    refusal(alloc, Status::Full, line.as_str())
+}
+
 // What is printed of what a search gives.
 fn of_found(alloc: Global, found: Found) -> Result<Report, AllocError>
     ensures { IfOk result (λ report. report ≡ of_found found) }
 {
     match found {
         Found::Report(made) => Ok(of_files(made)),
-        Found::Full => refusal(alloc, Status::Full, "more than 1000000 files"),
+        Found::Full => too_many_files(alloc),
         Found::OutOfRange(form) => form_out_of_range(alloc, form),
     }
 }

@@ -1,5 +1,6 @@
 // The run of a script.
 ghost use Rattle.std.specs.Prelude.{◌≡◌, ◌≤◌, IsErr, IfOk, length, None};
+ghost use Rattle.md_script.specs.Limits.{most_lines};
 ghost use Rattle.md_value.specs.Values.{IsMoment};
 ghost use Rattle.md_script.specs.declared.script.ScriptError.TheVariants.{BadLine, Memory};
 ghost use Rattle.md_tool.specs.Reports.{refused_script, line_out_of_range};
@@ -50,7 +51,7 @@ fn of_lines<T: Tree>(
     lines: &[Line],
     tree: &mut T,
 ) -> Result<Report, AllocError>
-    requires few { length lines.now ≤ 100_000 }
+    requires few { length lines.now ≤ most_lines }
     requires moment { IsMoment now }
     ensures { IfOk result (λ report. LinesAsk now offset lines.now
         (record { told = T.content tree.old; faults = T.faults tree.old })

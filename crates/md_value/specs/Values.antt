@@ -1,5 +1,5 @@
 -- When two texts, two names, two paths or two values are the same; kinds of values, and the moments that they may hold.
-use Rattle.std.specs.Prelude.{◌≡◌, ℕ, Bool, true, false, not, List, [], ◌∷◌, ◌&&◌, ℤ, ◌≤ℤ◌}
+use Rattle.std.specs.Prelude.{◌≡◌, ℕ, Bool, true, false, not, List, [], ◌∷◌, ◌&&◌, ℤ, pos, neg_ℤ, ◌≤ℤ◌}
 use Rattle.std.specs.Ordering.{is_lt, nat_cmp, int_eq}
 use Rattle.std.specs.Cmp.{IsEquivalence}
 use Rattle.std.specs.Cmp.Lexicographic.{slice_cmp, nat_list_eq_equiv, bytes_decides}
@@ -10,7 +10,6 @@ use Rattle.md_value.specs.declared.value.Value.{Value}
 use Rattle.md_value.specs.declared.value.Value.TheVariants as value
 use Rattle.md_value.specs.declared.value.Kind.{Kind}
 use Rattle.md_value.specs.declared.value.Kind.TheVariants as kind
-use Rattle.md_value.specs.declared.value.TheConstants.{LOW, HIGH}
 
 -- a path from the root, as its bytes; the root is empty
 abbrev pub PathBytes : Type 0
@@ -76,9 +75,16 @@ abbrev pub is_mixed : List Value → Bool
 is_mixed [] = false
 is_mixed (first ∷ rest) = list_any (λ v. not (same_kind first v)) rest
 
+-- the first moment of year 0001 and the last of year 9999, in seconds since 1970 in UTC
+abbrev pub first_moment : ℤ
+first_moment = neg_ℤ (pos 62_135_596_800)
+
+abbrev pub last_moment : ℤ
+last_moment = pos 253_402_300_799
+
 -- from year 0001 to year 9999
 abbrev pub IsMoment : ℤ → Type 0
-IsMoment moment = (LOW ≤ℤ moment) × (moment ≤ℤ HIGH)
+IsMoment moment = (first_moment ≤ℤ moment) × (moment ≤ℤ last_moment)
 
 -- a moment in it is in range
 abbrev pub IsInRange : Value → Type 0

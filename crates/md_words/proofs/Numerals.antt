@@ -6,7 +6,8 @@ use Rattle.std.specs.Str.{all_ascii_digits}
 use Rattle.std.specs.Str.Parse.{ParsesUnsigned}
 use Rattle.std.proofs.lemmas.Bool.Decides.{nat_tests}
 use Rattle.std.proofs.lemmas.Str.Parse.{tells_all_ascii_digits, numerals_by_value, parse_digits}
-use Rattle.md_words.specs.Numbers.{is_numeral, number_in}
+use Rattle.md_value.specs.Numerals.{is_numeral}
+use Rattle.md_words.specs.Numbers.{number_in}
 
 same_test : (ds : List ℕ) → all_ascii_digits ds ≡ list_all is_ascii_digit ds
 same_test [] = refl

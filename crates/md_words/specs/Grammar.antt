@@ -1,6 +1,7 @@
 -- What the words of the program say.
-use Rattle.std.specs.Prelude.{ℕ, nat_lt, ◌&&◌, Bool, true, false, if◌then◌else◌, List, [], ◌∷◌, codes, bytes_eq, Option, Some, None, is_none, unwrap_or, ℤ, pos}
+use Rattle.std.specs.Prelude.{ℕ, nat_lt, nat_le, ◌&&◌, Bool, true, false, if◌then◌else◌, List, [], ◌∷◌, codes, bytes_eq, Option, Some, None, is_none, unwrap_or, ℤ, pos}
 use Rattle.std.specs.Option.{option_map, option_and_then}
+use Rattle.md_gen.specs.Files.{most_made}
 use Rattle.md_words.specs.declared.command.Command.{Command}
 use Rattle.md_words.specs.declared.command.Tool.{Tool}
 use Rattle.md_words.specs.declared.command.Tool.TheVariants as tool
@@ -13,10 +14,10 @@ use Rattle.md_words.specs.Offsets.{offset_of}
 use Rattle.md_words.specs.Options.{options_of}
 use Rattle.md_words.specs.Find.{find_options_of}
 
--- whether the words can ask for a tool: `gen` makes 1 to 10,000 files
+-- whether the words can ask for a tool: `gen` makes at least one file
 abbrev pub is_offered : Tool → Bool
 is_offered (tool.Live (Some workers)) = false
-is_offered (tool.Gen start count) = nat_lt 0 count && nat_lt count 10001
+is_offered (tool.Gen start count) = nat_lt 0 count && nat_le count most_made
 is_offered _ = true
 
 -- the tool, where no word follows
@@ -54,9 +55,9 @@ import_of (word ∷ words) =
     else (if begins_with_dash word then None
     else option_map tool.Import (files_of (word ∷ words)))))
 
--- `START N`: a number of 64 bits, and from 1 to 10,000 files
+-- `START N`: a number of 64 bits, and from 1 to the most files that are made
 unfoldable pub gen_of : List (List ℕ) → Option Tool
-gen_of (start ∷ count ∷ []) = option_and_then (λ s. option_map (λ n. tool.Gen s n) (number_in 1 10000 count)) (number_in 0 18446744073709551615 start)
+gen_of (start ∷ count ∷ []) = option_and_then (λ s. option_map (λ n. tool.Gen s n) (number_in 1 most_made count)) (number_in 0 18446744073709551615 start)
 gen_of _ = None
 
 -- `"mdfind"`, `"mdls"`, `"mdimport"`, `"live"` or `"gen"`, and what follows

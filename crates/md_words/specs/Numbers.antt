@@ -1,12 +1,7 @@
 -- Numbers in decimal digits.
-use Rattle.std.specs.Prelude.{ℕ, ◌==◌, nat_le, Bool, not, ◌&&◌, if◌then◌else◌, List, length, Option, Some, None}
-use Rattle.std.specs.List.{list_all}
-use Rattle.std.specs.Char.{is_ascii_digit}
+use Rattle.std.specs.Prelude.{ℕ, nat_le, ◌&&◌, if◌then◌else◌, List, Option, Some, None}
 use Rattle.std.specs.Str.Parse.{digits_value}
-
--- one digit or more, and nothing else
-abbrev pub is_numeral : List ℕ → Bool
-is_numeral word = not (length word == 0) && list_all is_ascii_digit word
+use Rattle.md_value.specs.Numerals.{is_numeral}
 
 -- the number from the least to the most that digits write, with leading zeros or none
 unfoldable pub number_in : ℕ → ℕ → List ℕ → Option ℕ

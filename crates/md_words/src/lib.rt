@@ -14,4 +14,3 @@ mod word;
 pub use command::{Command, Mode, Tool, WordsError};
 pub use read::read_words;
 pub use word::Word;
-

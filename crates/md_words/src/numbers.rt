@@ -2,7 +2,8 @@
 ghost use Rattle.std.specs.Prelude.{◌≡◌, ◌≤◌, IfSome};
 ghost use Rattle.std.specs.List.{list_all};
 ghost use Rattle.std.specs.Char.{is_ascii_digit};
-ghost use Rattle.md_words.specs.Numbers.{is_numeral, number_in};
+ghost use Rattle.md_value.specs.Numerals.{is_numeral};
+ghost use Rattle.md_words.specs.Numbers.{number_in};
 
 fn are_digits(word: &str) -> bool
     ensures { result ≡ list_all is_ascii_digit word.now }

@@ -12,11 +12,9 @@ use crate::numbers::number_in;
 use crate::options::{Options, options_of};
 use crate::word::{begins_with_dash, first_word};
 use crate::{Mode, Tool, Word};
+use md_gen::MOST_FILES;
 use md_value::{Items, Path};
 use std::alloc::{AllocError, Global};
-
-/// The most files that `gen` makes.
-const MOST_MADE: u64 = 10_000;
 
 fn alone(tool: Tool, words: &[String]) -> Option<Tool>
     ensures same { IfSome result (λ given. given ≡ tool) }
@@ -162,7 +160,7 @@ fn gen_of(words: &[String]) -> Option<Tool>
         return None;
     };
     let start = number_in(0, u64::MAX, start.as_str())?;
-    let count = number_in(1, MOST_MADE, count.as_str())?;
+    let count = number_in(1, MOST_FILES as u64, count.as_str())?;
     Some(Tool::Gen {
         start,
         count: count as u32,

@@ -7,10 +7,9 @@ use Rattle.std.specs.Cmp.Lexicographic.{slice_cmp}
 use Rattle.std.specs.List.{AllByRecursion, list_any}
 use Rattle.std.specs.List.Sorted.{IsPermutation}
 use Rattle.md_value.specs.Values.{is_same}
-use Rattle.md_value.specs.Attrs.{get}
+use Rattle.md_value.specs.Attrs.{get, text_content}
 use Rattle.md_value.specs.declared.value.Value.{Value}
 use Rattle.md_value.specs.declared.value.Value.TheVariants as value
-use Rattle.md_world.specs.Tables.{text_content}
 use Rattle.md_world.specs.declared.Row.{Row}
 use Rattle.md_world.specs.declared.order.SortKey.{SortKey}
 

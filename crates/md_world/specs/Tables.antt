@@ -1,7 +1,9 @@
 -- Tables of rows, and what a commit makes of one.
-use Rattle.std.specs.Prelude.{◌≡◌, ℕ, Bool, true, not, List, [], ◌∷◌, ◌++◌, ◌&&◌, Option, is_some, filter, find, codes}
+use Rattle.std.specs.Prelude.{◌≡◌, ◌≢◌, ℕ, Bool, true, false, not, List, [], ◌∷◌, ◌++◌, ◌&&◌, Option, is_some, filter, find, slice_get}
+use Rattle.std.specs.Option.{option_map_or}
+use Rattle.std.specs.List.{AllByRecursion}
 use Rattle.md_value.specs.Values.{PathBytes, is_same, is_before}
-use Rattle.md_value.specs.Attrs.{same_attrs, without_name}
+use Rattle.md_value.specs.Attrs.{same_attrs, without_name, text_content}
 use Rattle.md_world.specs.declared.Row.{Row}
 use Rattle.md_world.specs.declared.Change.{Change}
 use Rattle.md_world.specs.declared.Change.TheVariants.{Put, Remove}
@@ -16,6 +18,15 @@ abbrev pub IsTable : List Row → Type 0
 IsTable [] = Unit {0}
 IsTable (row ∷ rows) = StandAfter row.path rows × IsTable rows
 
+-- no row has the path of the root, which is empty
+abbrev pub HasNoRoot : List Row → Type 0
+HasNoRoot rows = AllByRecursion (λ (row : Row). row.path ≢ []) rows
+
+-- the rows have distinct paths other than the root, ascending by bytes
+pub record IsRowTable (rows : List Row) : Type 0 where
+  pub ordered : IsTable rows
+  pub no_root : HasNoRoot rows
+
 -- the row of a path, if there is one
 abbrev pub at : List Row → PathBytes → Option Row
 at rows path = find (λ row. is_same row.path path) rows
@@ -23,6 +34,10 @@ at rows path = find (λ row. is_same row.path path) rows
 -- whether there is a row of a path
 abbrev pub has_path : List Row → PathBytes → Bool
 has_path rows path = is_some (at rows path)
+
+-- whether the row at the place has the path
+abbrev pub has_at : List Row → ℕ → PathBytes → Bool
+has_at rows place path = option_map_or (λ row. is_same row.path path) (slice_get rows place) false
 
 -- the rows before a path, and those after it
 abbrev pub rows_before : PathBytes → List Row → List Row
@@ -43,10 +58,6 @@ without_path rows path = filter (λ row. not (is_same row.path path)) rows
 abbrev pub after : List Row → PathBytes → Change → List Row
 after table path (Put attrs) = with_row table (record { path = path; attrs = attrs })
 after table path Remove = without_path table path
-
--- the attribute that is searched and not shown
-abbrev pub text_content : List ℕ
-text_content = codes "kMDItemTextContent"
 
 -- the row without its text content
 abbrev pub shown : Row → Row

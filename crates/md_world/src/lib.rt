@@ -4,8 +4,10 @@
 ghost use Rattle.std.specs.Prelude.{◌≡◌, ◌==◌, [], IfOk, map};
 ghost use Rattle.md_world.specs.Tables.{shown, same_row};
 
+mod laws;
 mod order;
 
+pub use laws::limits_are_standard;
 use md_value::{Attrs, Copied, Items, Path};
 pub use order::{NotShown, Order, SortKey};
 use std::alloc::{AllocError, Global};
@@ -130,4 +132,3 @@ impl Copied for Notice {
         })
     }
 }
-

@@ -2,7 +2,7 @@
 ghost use Rattle.std.specs.Prelude.{◌≡◌, ◌↔◌, IfOk, IsErr, IsOk, [], true};
 ghost use Rattle.std.specs.List.{list_any};
 ghost use Rattle.md_value.specs.Values.{is_same};
-ghost use Rattle.md_world.specs.Tables.{text_content};
+ghost use Rattle.md_value.specs.Attrs.{text_content};
 ghost use Rattle.md_world.specs.Orders.{names_content};
 
 use crate::TEXT_CONTENT;

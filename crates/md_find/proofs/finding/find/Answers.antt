@@ -3,8 +3,8 @@ use Rattle.std.specs.Option.{option_map}
 use Rattle.std.proofs.lemmas.Int.{to_z-of_z}
 use Rattle.md_world.specs.declared.order.SortKey.{SortKey}
 use Rattle.md_match.specs.Forms.{capped}
-use Rattle.md_machine.specs.Answers.{asked}
-use Rattle.md_machine.specs.declared.TheConstants.Batch.{NONE}
+use Rattle.md_machine.specs.Answers.{spec_of}
+use Rattle.md_machine.specs.Answers.{no_batch}
 use Rattle.md_files.proofs.Answering.{ok_then}
 use Rattle.md_find.specs.Finds.{misdates, query_of}
 use Rattle.md_find.proofs.Below.{finds_below}
@@ -18,7 +18,7 @@ returns-in-Ok-clause-finds g c =
     let offset_fits : FitsSigned w32 sought.offset = search rules in
     let made = simp to_z-of_z at c.in-Ok.ensures.made in
     let in_range = simp to_z-of_z at c.in-Ok.ensures.in_range in
-    let is : c.in-Ok.spec ≡ query_of sought = made ∙ ap (λ (order : List SortKey). asked sought.expr sought.moment sought.offset sought.scope order NONE) c.by_path.ensures in
+    let is : c.in-Ok.spec ≡ query_of sought = made ∙ ap (λ (order : List SortKey). spec_of sought.expr sought.moment sought.offset sought.scope order no_batch) c.by_path.ensures in
     ok_then _ _ (finds_below _ _ _ sought c.in-Ok.spec c.args.output is (ap (option_map capped) in_range)) c.find_below.result c.find_below.ensures.finds
 
 pub returns-in-Ok-clause-cause : goal.returns-in-Ok-clause-cause

@@ -1,6 +1,5 @@
 use Rattle.std.proofs.Common.{◌≡◌, map, take}
-use Rattle.md_value.specs.Attrs.{without_name}
-use Rattle.md_print.specs.Attributes.{text_content}
+use Rattle.md_value.specs.Attrs.{without_name, text_content}
 use Rattle.md_print.proofs.attributes.all_names.Given as goal
 
 abbrev pub invariant-loop-place : goal.invariant-loop-place

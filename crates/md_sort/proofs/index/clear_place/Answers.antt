@@ -3,8 +3,7 @@ use Rattle.std.specs.List.{prefix_len}
 use Rattle.slab.specs.Slab.{get}
 use Rattle.md_value.specs.Values.{is_before}
 use Rattle.md_world.specs.declared.Row.{Row}
-use Rattle.md_world.specs.Tables.{has_path}
-use Rattle.md_sort.specs.Kept.{has_at}
+use Rattle.md_world.specs.Tables.{has_path, has_at}
 use Rattle.md_sort.specs.Slots.{rows_at}
 use Rattle.md_sort.proofs.Placed.{none_out, before_without, prefix_within}
 use Rattle.md_sort.proofs.Slots.{has_permuted, length_rows}

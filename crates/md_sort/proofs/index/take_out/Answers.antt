@@ -1,7 +1,6 @@
 use Rattle.std.proofs.Common.{rules, ◌≡◌, true, false, sym, ◌∙◌}
 use Rattle.slab.specs.Slab.{get}
-use Rattle.md_world.specs.Tables.{has_path}
-use Rattle.md_sort.specs.Kept.{has_at}
+use Rattle.md_world.specs.Tables.{has_path, has_at}
 use Rattle.md_sort.specs.Slots.{rows_at}
 use Rattle.md_sort.proofs.Placed.{none_out, found_there}
 use Rattle.md_sort.proofs.Slots.{has_permuted}

@@ -1,8 +1,7 @@
-use Rattle.std.proofs.Common.{rules, arith}
-use Rattle.std.proofs.lemmas.Grind.{common_steps}
-use Rattle.md_value.specs.Schema.{schema}
+use Rattle.std.proofs.Common.{◌∙◌, ap}
+use Rattle.md_value.specs.Schema.{rule_in}
+use Rattle.md_value.proofs.Schemas.{schema_listed}
 use Rattle.md_value.proofs.schema.schema_of.Goals as goal
 
 pub returns : goal.returns
-unfolding schema
-returns c = first_of (search rules, grind (arith, common_steps))
+returns c = c.rule_in.ensures ∙ ap (λ table. rule_in table c.args.name.now) schema_listed
