@@ -1,13 +1,13 @@
 -- What is found among files that were gathered.
-use Rattle.std.proofs.Common.{◌≡◌, ℕ, List, ◌++◌, filter, refl, ◌∙◌, ap, subst, Option}
+use Rattle.std.proofs.Common.{◌≡◌, ℕ, List, ◌++◌, refl, ◌∙◌, ap, subst, Option}
 use Rattle.md_value.specs.Values.{PathBytes}
 use Rattle.md_source.specs.Tree.{Content}
 use Rattle.md_source.specs.declared.tree.Entry.{Entry}
 use Rattle.md_world.specs.declared.Row.{Row}
 use Rattle.md_world.specs.Differences.{paths_of}
-use Rattle.md_match.specs.Conditions.{Condition, passes}
+use Rattle.md_match.specs.Conditions.{Condition}
 use Rattle.md_machine.specs.declared.Spec.{Spec}
-use Rattle.md_machine.specs.Answers.{keeps, answer}
+use Rattle.md_machine.specs.Answers.{condition_of, answer}
 use Rattle.md_files.specs.Findings.{read_findings}
 use Rattle.md_files.specs.Reports.{Report, report_of}
 use Rattle.md_find.specs.declared.finding.Output.{Output}
@@ -15,12 +15,9 @@ use Rattle.md_find.specs.Files.{table_of}
 use Rattle.md_find.specs.Finds.{found_text, FindsBy, FindsAmong}
 use Rattle.md_find.proofs.Gathered.{passing, Gathers}
 
-abbrev pub condition_of : Spec → Condition
-condition_of query = record { expr = query.expr; moment = query.now; offset = query.offset; scope = query.scope }
-
 -- what passes a query's condition is the query's answer
 passing_answer : (query : Spec) (rows : List Row) → passing (condition_of query) rows ≡ paths_of (answer query rows)
-unfolding answer keeps
+unfolding answer
 passing_answer query rows = refl
 
 module _ (told : Option Content) (before now : ℕ) (output : Output) (entries : List Entry) where
