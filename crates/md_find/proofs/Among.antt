@@ -1,5 +1,5 @@
 -- What is found among files that were gathered.
-use Rattle.std.proofs.Common.{◌≡◌, ℕ, List, ◌++◌, filter, refl, ◌∙◌, ap, subst, Option}
+use Rattle.std.proofs.Common.{◌≡◌, ℕ, List, ◌++◌, refl, ◌∙◌, ap, subst, Option}
 use Rattle.md_value.specs.Values.{PathBytes}
 use Rattle.md_source.specs.Tree.{Content}
 use Rattle.md_source.specs.declared.tree.Entry.{Entry}

@@ -7,3 +7,4 @@ pub mod Gathered
 pub mod Among
 pub mod Below
 pub mod Causes
+pub mod Counting

@@ -3,7 +3,7 @@ use Rattle.std.specs.Prelude.{◌≡◌, ℕ, ◌≤◌, ◌<◌, List, length, 
 use Rattle.md_value.specs.Values.{PathBytes}
 use Rattle.md_source.specs.Tree.{Content, entries_below}
 use Rattle.md_source.specs.declared.tree.Entry.{Entry}
-use Rattle.md_files.specs.Answers.{Answer, Fails}
+use Rattle.md_files.specs.Answers.{Answer, Fails, failures}
 use Rattle.md_files.specs.Folders.{IsListed, HasNoFolder, AreRead}
 
 -- the most files of a folder that is searched
@@ -28,3 +28,10 @@ IsHeld told before now path (files entries answers) = IsListed told path entries
 IsHeld told before now path unlisted = Fails before now
 IsHeld told before now path nothing = (now ≡ before) × HasNoFolder told path
 IsHeld told before now path full = (now ≡ before) × HasTooMany told path
+
+-- how many askings failed: of the listing, or of its files
+abbrev pub folder_failures : Folder → ℕ
+folder_failures (files entries answers) = failures answers
+folder_failures unlisted = 1
+folder_failures nothing = 0
+folder_failures full = 0

@@ -7,6 +7,7 @@
 #![tactic(auto)]
 
 mod finding;
+pub mod laws;
 mod printing;
 mod reading;
 mod searching;

@@ -1,6 +1,5 @@
 use Rattle.std.proofs.Common.{◌≡◌, rules, FitsSigned, w32, w64}
 use Rattle.std.proofs.lemmas.Int.{to_z-of_z}
-use Rattle.md_match.specs.Conditions.{Condition}
 use Rattle.md_files.proofs.Answering.{ok_then}
 use Rattle.md_machine.specs.Answers.{condition_of}
 use Rattle.md_find.proofs.Among.{among}
