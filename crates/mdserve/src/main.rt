@@ -1,13 +1,14 @@
 //! The metadata server's program.
 #![tactic(auto)]
 
-use md_source::{Folder, MachineClock, Reading, Writing};
+use md_source::{Clock, Folder, MachineClock, Reading, Sink, Source, Tree, Writing};
 use md_tool::{Status, run};
 use std::alloc::Global;
 use std::env;
 use std::io::{self, ErrorKind};
 use std::process::ExitCode;
 use std::rt::Env;
+use std::thread::Threads;
 
 // The words after the program's name.
 fn words_of(rt: &(impl Env + AllocGlobal), alloc: Global) -> io::Result<Vec<String>> {
@@ -16,6 +17,19 @@ fn words_of(rt: &(impl Env + AllocGlobal), alloc: Global) -> io::Result<Vec<Stri
         words.push(word)?;
     }
     Ok(words)
+}
+
+// The status of the top call. What its contract says is no concern of the caller's.
+fn status_of<R: Threads + Sync, T: Tree, S: Source, C: Clock, K: Sink, E: Sink>(
+    rt: &R,
+    words: &[String],
+    tree: &mut T,
+    script: &mut S,
+    clock: &mut C,
+    out: &mut K,
+    err: &mut E,
+) -> Status {
+    run(rt, rt.alloc(), words, tree, script, clock, out, err).status
 }
 
 fn main(rt: HostRuntime) -> ExitCode {
@@ -28,20 +42,14 @@ fn main(rt: HostRuntime) -> ExitCode {
         // A word that is not UTF-8 is no command.
         Err(_) => Vec::new(alloc),
     };
-    let mut script = Reading::new(rt.stdin());
-    let mut out = Writing::new(rt.stdout());
-    let mut err = Writing::new(rt.stderr());
-    let mut tree = Folder::new(rt);
-    let mut clock = MachineClock::new(rt);
-    let outcome = run(
+    let status = status_of(
         &rt,
-        alloc,
         &words,
-        &mut tree,
-        &mut script,
-        &mut clock,
-        &mut out,
-        &mut err,
+        &mut Folder::new(rt),
+        &mut Reading::new(rt.stdin()),
+        &mut MachineClock::new(rt),
+        &mut Writing::new(rt.stdout()),
+        &mut Writing::new(rt.stderr()),
     );
-    ExitCode::from(outcome.status.code())
+    ExitCode::from(status.code())
 }
