@@ -1,5 +1,5 @@
 -- What is asked and how a run ends, from what is made and what was put.
-use Rattle.std.proofs.Common.{◌≡◌, ◌⊎◌, inl, inr, List, ℕ, ℤ, codes, refl, sym, ◌∙◌, ap, subst, Result, Ok, Err, Option, Some, None, IfOk, IsErr}
+use Rattle.std.proofs.Common.{◌≡◌, ◌⊎◌, inl, inr, List, ℕ, ℤ, codes, refl, sym, ◌∙◌, ap, subst, Result, Ok, Err, Option, Some, None, IfOk, IsErr, arith}
 use Rattle.md_expr_parse.specs.declared.read.ReadError.{ReadError}
 use Rattle.md_expr_tree.specs.declared.tree.Expr.{Expr}
 use Rattle.md_find.specs.Finds as search
@@ -17,7 +17,7 @@ use Rattle.md_words.specs.declared.command.Tool.TheVariants as tool
 use Rattle.md_tool.specs.Causes.{TellsFirst, InputFails, OutputFails, IsReady, IsWhole}
 use Rattle.md_tool.specs.Outside.{Shown, Files, Inputs, Outputs, IsRead, IsShown, Fails, ClockFails, TakesNothing, TakesWhole, TakesPart}
 use Rattle.md_tool.specs.Reports.{Report, refusal, usage, no_clock, refused_script, refused_text, line_out_of_range, of_found}
-use Rattle.md_tool.specs.Asking.{LinesAsk, Answers, Lives, Finds, ToolAsks, CommandAsks, WordsAsk, Prints, Ends}
+use Rattle.md_tool.specs.Asking.{LinesAsk, Answers, Lives, Finds, ToolAsks, Leaves, CommandAsks, WordsAsk, Prints, Ends}
 use Rattle.md_tool.specs.Asking.LinesAsk.{misdated}
 use Rattle.md_tool.specs.Asking.Answers.{refuses as script_refuses, unclocked as script_unclocked, runs}
 use Rattle.md_tool.specs.Asking.Lives.{unread, read}
@@ -113,6 +113,24 @@ pub ends_words : (words : List (List ℕ)) (old new : Inputs) (before after : Ou
     → (answer : Status) → Ends (CommandAsks command old new) before after answer → Ends (WordsAsk words old new) before after answer
 ends_words words old new before after command is _ (prints r answer asks h) = prints r answer (commands command r is asks) h
 ends_words words old new before after command is _ (no_memory e o) = no_memory e o
+
+-- where nothing is asked, all stays
+pub leaves_same : (what : Tool) (old : Inputs) → Leaves what old old
+leaves_same (tool.Find zero count scope name mode text) old = ((refl, omega arith), refl)
+leaves_same (tool.Show raw marker names files) old = ((refl, omega arith), refl, refl)
+leaves_same (tool.Import files) old = ((refl, omega arith), refl, refl)
+leaves_same tool.Importers old = refl
+leaves_same tool.Attributes old = refl
+leaves_same (tool.Live workers) old = (refl, omega arith)
+leaves_same (tool.Gen start count) old = refl
+
+-- what a command leaves is left where the words read as it
+pub leaves_words : (words : List (List ℕ)) (old new : Inputs) (known : Command) → command_of words ≡ Some known → Leaves known.what old new
+    → (command : Command) → command_of words ≡ Some command → Leaves command.what old new
+leaves_words words old new known is leaves command told =
+    let same : Some known ≡ Some command = sym is ∙ told in
+    let known_same : known ≡ command = cc (same) in
+    subst (λ c. Leaves c.what old new) known_same leaves
 
 -- what holds where the needs of a command are met holds of the words that read as it
 pub complete_words : (words : List (List ℕ)) (old new : Inputs) (before after : Outputs) (answer : Status) (known : Command) → command_of words ≡ Some known

@@ -70,10 +70,9 @@ module _ (offset : ℤ) (zero count : Bool) (scope : PathBytes) (name : Option (
     -- what is told and in order is so for the search
     in_range : IsReady offset old what → form_out search ≡ None
     in_range ready =
-        let same : Ok expr ≡ Ok ready.4.0 = sym is ∙ ready.4.1 in
-        let expr_same : expr ≡ ready.4.0 = cc (same) in
-        let at = told_moment old.clock.told now ready.1 ready.3 shown.told in
-        let none : first_out_of_range now offset expr ≡ None = (λ i. first_out_of_range (at i) offset (expr_same i)) ∙ ready.4.2 in
+        let same : Ok expr ≡ Ok ready.1 = sym is ∙ ready.3 in
+        let expr_same : expr ≡ ready.1 = cc (same) in
+        let none : first_out_of_range now offset expr ≡ None = ap (first_out_of_range now offset) expr_same ∙ ready.4 now (shown.range, shown.told) in
         rw none refl
 
     ends_well : (made : Found) → IsGiven search old.tree new.tree made → IsReady offset old what → ¬ (InputFails old new) → EndsBy made ended.Ok

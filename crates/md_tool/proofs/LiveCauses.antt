@@ -121,15 +121,14 @@ module _ (offset : ℤ) (bytes : List ℕ) (clock shown : Shown) (old new : File
   absent_answered content told _ (unclocked lines v rose kept) is = cc
   absent_answered content told _ (runs lines now r v shows asks) is = (lines, v, absent_of_lines now offset lines old new content told r asks is)
 
-  whole_answered : (moment : ℤ) → clock.told ≡ Some moment → IsAccepted moment offset old.told bytes → ¬ (TreeFails old new) → ¬ (ClockFails clock shown)
+  whole_answered : IsAccepted offset clock old.told bytes → ¬ (TreeFails old new) → ¬ (ClockFails clock shown)
       → (r : Report) → Answers offset bytes clock shown old new r → (r.status ≡ status.Ok) × (length bytes ≤ most_bytes)
-  whole_answered moment told accepted quiet kept _ (refuses e v same tree) = let wrong : Ok accepted.0 ≡ Err e = sym accepted.1 ∙ v in cc (wrong)
-  whole_answered moment told accepted quiet kept _ (unclocked lines v rose tree) = absurd (kept rose)
-  whole_answered moment told accepted quiet kept _ (runs lines now r v shows asks) =
+  whole_answered accepted quiet kept _ (refuses e v same tree) = let wrong : Ok accepted.0 ≡ Err e = sym accepted.1 ∙ v in cc (wrong)
+  whole_answered accepted quiet kept _ (unclocked lines v rose tree) = absurd (kept rose)
+  whole_answered accepted quiet kept _ (runs lines now r v shows asks) =
       let same : Ok accepted.0 ≡ Ok lines = sym accepted.1 ∙ v in
       let lines_same : accepted.0 ≡ lines = cc (same) in
-      let at = told_moment clock.told now moment told shows.told in
-      let none : out_of_range now offset lines ≡ None = (λ i. out_of_range (at i) offset (sym lines_same i)) ∙ accepted.2 in
+      let none : out_of_range now offset lines ≡ None = ap (out_of_range now offset) (sym lines_same) ∙ accepted.2 now (shows.range, shows.told) in
       let short = ((accepted_lem bytes lines).0 v).0 in
       (whole_of_lines now offset lines old new none (subst (TellsImports old.told) lines_same accepted.3) quiet r asks, short.bytes)
 
@@ -171,9 +170,9 @@ module _ (offset : ℤ) (old new : Inputs) where
   whole_live : IsReady offset old (tool.Live None) → ¬ (InputFails old new) → (r : Report) → Lives offset old new r → IsWhole (tool.Live None) new r.status
   whole_live ready quiet _ (unread rose clock tree) = absurd (quiet (inr (inl rose)))
   whole_live ready quiet _ (read bytes r is answers) =
-      let same = told_verdict old.script new.script bytes ready.0 is ready.2 in
-      let accepted = ready.4 in
-      let ok = whole_answered offset bytes old.clock new.clock old.tree new.tree ready.1 ready.3 (accepted.0, same ∙ accepted.1, accepted.2, accepted.3)
+      let same = told_verdict old.script new.script bytes ready.0 is ready.1 in
+      let accepted = ready.2 in
+      let ok = whole_answered offset bytes old.clock new.clock old.tree new.tree (accepted.0, same ∙ accepted.1, accepted.2, accepted.3)
       (λ rose. quiet (inl rose)) (λ rose. quiet (inr (inr rose))) r answers in
       (ok.0, λ live. is.end ok.1)
 

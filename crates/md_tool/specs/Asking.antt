@@ -21,7 +21,7 @@ use Rattle.md_words.specs.Grammar.{command_of}
 use Rattle.md_words.specs.declared.command.Command.{Command}
 use Rattle.md_words.specs.declared.command.Tool.{Tool}
 use Rattle.md_words.specs.declared.command.Tool.TheVariants as tool
-use Rattle.md_tool.specs.Outside.{Shown, Files, Inputs, Outputs, IsRead, IsShown, Fails, ClockFails, TakesNothing, TakesWhole, TakesPart}
+use Rattle.md_tool.specs.Outside.{Shown, Files, Inputs, Outputs, IsRead, IsShown, Stays, Fails, ClockFails, TakesNothing, TakesWhole, TakesPart}
 use Rattle.md_tool.specs.Reports.{Report, plain, refusal, usage, no_clock, refused_script, refused_text, line_out_of_range, of_files, of_found}
 use Rattle.md_tool.specs.declared.status.Status.{Status}
 use Rattle.md_tool.specs.declared.status.Status.TheVariants as status
@@ -84,6 +84,15 @@ ToolAsks offset old new (tool.Gen start count) report = (new ≡ old) × (text :
 -- what a command asks, and what is printed of it
 abbrev pub CommandAsks : Command → Inputs → Inputs → Report → Type 0
 CommandAsks command old new report = ToolAsks command.offset old new command.what report
+
+-- What a tool leaves as it was, whatever its status is, also where memory runs out: the objects that it does not name, and
+-- the content of the tree.
+abbrev pub Leaves : Tool → Inputs → Inputs → Type 0
+Leaves (tool.Find zero count scope name mode text) old new = Stays old.tree new.tree × (new.script ≡ old.script)
+Leaves (tool.Show raw marker names files) old new = Stays old.tree new.tree × (new.script ≡ old.script) × (new.clock ≡ old.clock)
+Leaves (tool.Import files) old new = Stays old.tree new.tree × (new.script ≡ old.script) × (new.clock ≡ old.clock)
+Leaves (tool.Live workers) old new = Stays old.tree new.tree
+Leaves _ old new = new ≡ old
 
 -- what the words ask, and what is printed of it; nothing is asked where they are not understood
 pub data WordsAsk (words : List (List ℕ)) (old new : Inputs) : Report → Type 0 where

@@ -18,7 +18,7 @@ use Rattle.md_source.specs.Tree.{Content, has_folder, entries_below}
 use Rattle.md_value.specs.Values.{PathBytes}
 use Rattle.md_words.specs.declared.command.Tool.{Tool}
 use Rattle.md_words.specs.declared.command.Tool.TheVariants as tool
-use Rattle.md_tool.specs.Outside.{Inputs, Outputs, TreeFails, Fails, ClockFails}
+use Rattle.md_tool.specs.Outside.{Shown, MayShow, Inputs, Outputs, TreeFails, Fails, ClockFails}
 use Rattle.md_tool.specs.declared.status.Status.{Status}
 use Rattle.md_tool.specs.declared.status.Status.TheVariants as status
 
@@ -85,26 +85,30 @@ abbrev pub TellsImports : Option Content → List Line → Type 0
 TellsImports None lines = filter_map (λ line. imported_path line.what) lines ≡ []
 TellsImports (Some content) lines = tells_imports content lines ≡ true
 
--- the script is read as lines, with each form of time in range now at the offset and each file that they import told
-abbrev pub IsAccepted : ℤ → ℤ → Option Content → List ℕ → Type 0
-IsAccepted now offset told bytes = (lines : List Line) × (verdict bytes ≡ Ok lines) × (out_of_range now offset lines ≡ None) × TellsImports told lines
+-- each form of time of lines is in range at each moment that the clock may show; so it is with none, whatever it shows
+abbrev pub AreInRange : ℤ → Shown → List Line → Type 0
+AreInRange offset clock lines = (now : ℤ) → MayShow clock now → out_of_range now offset lines ≡ None
 
--- the search text is read as an expression, with each form of time in range now at the offset
-abbrev pub IsReadInRange : ℤ → ℤ → Result Expr ReadError → Type 0
-IsReadInRange now offset query = (expr : Expr) × (query ≡ Ok expr) × (first_out_of_range now offset expr ≡ None)
+-- each form of time of an expression
+abbrev pub IsInRange : ℤ → Shown → Expr → Type 0
+IsInRange offset clock expr = (now : ℤ) → MayShow clock now → first_out_of_range now offset expr ≡ None
+
+-- the script is read as lines, with each form of time in range and each file that they import told
+abbrev pub IsAccepted : ℤ → Shown → Option Content → List ℕ → Type 0
+IsAccepted offset clock told bytes = (lines : List Line) × (verdict bytes ≡ Ok lines) × AreInRange offset clock lines × TellsImports told lines
 
 -- the folder is there, and has not too many files
 abbrev pub HasFew : Content → PathBytes → Type 0
 HasFew content scope = (has_folder content.folders scope ≡ true) × (length (entries_below content.files scope) ≤ most_files)
 
--- what a tool needs is told and in order: the files and folders that it names, a script that is accepted now, or a search
--- text that is read
+-- what a tool needs is told and in order: the files and folders that it names, a script that is accepted, or a search text
+-- that is read. The moment of the clock need not be told.
 abbrev pub IsReady : ℤ → Inputs → Tool → Type 0
 IsReady offset inputs (tool.Find zero count scope name mode text) =
-    (content : Content) × (now : ℤ) × (inputs.tree.told ≡ Some content) × (inputs.clock.told ≡ Some now)
-    × IsReadInRange now offset (search_of name mode text) × HasFew content scope
+    (content : Content) × (expr : Expr) × (inputs.tree.told ≡ Some content) × (search_of name mode text ≡ Ok expr)
+    × IsInRange offset inputs.clock expr × HasFew content scope
 IsReady offset inputs (tool.Live None) =
-    (bytes : List ℕ) × (now : ℤ) × (inputs.script.told ≡ Some bytes) × (inputs.clock.told ≡ Some now) × IsAccepted now offset inputs.tree.told bytes
+    (bytes : List ℕ) × (inputs.script.told ≡ Some bytes) × IsAccepted offset inputs.clock inputs.tree.told bytes
 IsReady offset inputs (tool.Show raw marker names files) = (content : Content) × (inputs.tree.told ≡ Some content) × (tells_files content files ≡ true)
 IsReady offset inputs (tool.Import files) = (content : Content) × (inputs.tree.told ≡ Some content) × (tells_all content files ≡ true)
 IsReady offset inputs _ = Unit {0}

@@ -60,6 +60,14 @@ pub record IsShown (old new : Shown) (now : ℤ) : Type 0 where
   pub told : IfSome old.told (λ moment. now ≡ moment)
   pub kept : new.faults ≡ old.faults
 
+-- the moments that a clock may show: the one that is told, or any where none is
+abbrev pub MayShow : Shown → ℤ → Type 0
+MayShow clock now = IsMoment now × IfSome clock.told (λ moment. now ≡ moment)
+
+-- the content of a tree stays, and its count of faults does not fall
+abbrev pub Stays : Files → Files → Type 0
+Stays old new = (new.told ≡ old.told) × (old.faults ≤ new.faults)
+
 -- a source or a sink, a clock, a tree failed
 abbrev pub Fails : Bytes → Bytes → Type 0
 Fails old new = Rose old.faults new.faults

@@ -1,5 +1,5 @@
 // The search for files.
-ghost use Rattle.std.specs.Prelude.{◌≡◌, ℕ, Bool, List, Option, IsErr, IfOk, Err};
+ghost use Rattle.std.specs.Prelude.{◌≡◌, ◌≤◌, ℕ, Bool, List, Option, IsErr, IfOk, Err};
 ghost use Rattle.std.specs.Option.{option_map};
 ghost use Rattle.md_expr_parse.specs.declared.read.ReadError.TheVariants.{Memory};
 ghost use Rattle.md_find.specs.Searches.{search_of};
@@ -104,6 +104,8 @@ pub(crate) fn find<R: Threads + Sync, T: Tree, C: Clock>(
         (inputs (T.content tree.new) (T.faults tree.new) script.told script.faults (C.moment clock.new) (C.faults clock.new))
         report.status) }
     ensures memory { query ≡ Err Memory → IsErr result }
+    ensures content { T.content tree.new ≡ T.content tree.old }
+    ensures later { T.faults tree.old ≤ T.faults tree.new }
 {
     let expr = match query {
         Ok(expr) => expr,

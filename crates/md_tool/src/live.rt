@@ -53,9 +53,11 @@ fn of_lines<T: Tree>(
 ) -> Result<Report, AllocError>
     requires few { length lines.now ≤ most_lines }
     requires moment { IsMoment now }
-    ensures { IfOk result (λ report. LinesAsk now offset lines.now
+    ensures asks { IfOk result (λ report. LinesAsk now offset lines.now
         (record { told = T.content tree.old; faults = T.faults tree.old })
         (record { told = T.content tree.new; faults = T.faults tree.new }) report) }
+    ensures content { T.content tree.new ≡ T.content tree.old }
+    ensures later { T.faults tree.old ≤ T.faults tree.new }
 {
     if let Some((line, form)) = out_of_range(now, offset, lines) {
         return line_out_of_range(alloc, line, form);
@@ -72,11 +74,13 @@ fn answer<T: Tree, C: Clock>(
     tree: &mut T,
     clock: &mut C,
 ) -> Result<Report, AllocError>
-    ensures { IfOk result (λ report. Answers offset bytes.now
+    ensures asks { IfOk result (λ report. Answers offset bytes.now
         (record { told = C.moment clock.old; faults = C.faults clock.old })
         (record { told = C.moment clock.new; faults = C.faults clock.new })
         (record { told = T.content tree.old; faults = T.faults tree.old })
         (record { told = T.content tree.new; faults = T.faults tree.new }) report) }
+    ensures content { T.content tree.new ≡ T.content tree.old }
+    ensures later { T.faults tree.old ≤ T.faults tree.new }
 {
     let script = match read_script(alloc, bytes) {
         Ok(script) => script,
@@ -106,6 +110,8 @@ pub(crate) fn live<T: Tree, S: Source, C: Clock>(
         (inputs (T.content tree.old) (T.faults tree.old) (S.left script.old) (S.faults script.old) (C.moment clock.old) (C.faults clock.old))
         (inputs (T.content tree.new) (T.faults tree.new) (S.left script.new) (S.faults script.new) (C.moment clock.new) (C.faults clock.new))
         report.status) }
+    ensures content { T.content tree.new ≡ T.content tree.old }
+    ensures later { T.faults tree.old ≤ T.faults tree.new }
 {
     match read_all(alloc, script, MOST_BYTES) {
         Ok(bytes) => {

@@ -5,23 +5,24 @@ ghost use Rattle.md_tool.specs.Codes.{code_of};
 /// How a run ended. The program ends with its number.
 #[derive(Clone, Copy, Debug, PartialEq, Eq)]
 pub enum Status {
-    /// All was printed, and all that was named was there.
+    /// All was printed, all that was named was there, and no call failed.
     Ok,
-    /// The words are not understood.
+    /// The words are not in the grammar of the commands. Nothing was asked.
     Usage,
-    /// The search text is refused, or a form of time of it or of the script is out of range.
+    /// The search text is refused, or a form of time of it or of the script is out of range at the moment that the clock
+    /// showed.
     Expression,
-    /// The tree, the script or the clock could not be read.
+    /// A call on the tree, the script or the clock failed: its count of faults rose.
     ReadFault,
-    /// A text could not be written whole.
+    /// A call on a sink failed: its count of faults rose, and a front of the texts was put.
     WriteFault,
-    /// Memory ran out, and nothing was printed.
+    /// Memory ran out, and nothing was put.
     Memory,
-    /// The script is not understood, or is too long.
+    /// The script is too long, has too many lines, or has a line that is not in the grammar.
     Script,
-    /// A file or folder that was named is not there.
+    /// No call failed, and a file or folder that was named is not in the tree.
     Absent,
-    /// The folder that is searched has over 1,000,000 files.
+    /// The folder that is searched has over 1,000,000 files, of which none was read.
     Full,
 }
 

@@ -1,9 +1,9 @@
 // What a command asks to be printed.
-ghost use Rattle.std.specs.Prelude.{◌≡◌, IfOk, true};
+ghost use Rattle.std.specs.Prelude.{◌≡◌, ◌≤◌, IfOk, true};
 ghost use Rattle.md_words.specs.Grammar.{is_offered};
 ghost use Rattle.md_words.specs.declared.command.Tool.TheVariants.{Show, Import};
 ghost use Rattle.md_tool.specs.Outside.{Bytes, Shown, inputs};
-ghost use Rattle.md_tool.specs.Asking.{OfFiles, ToolAsks};
+ghost use Rattle.md_tool.specs.Asking.{OfFiles, ToolAsks, Leaves};
 ghost use Rattle.md_tool.specs.Causes.{TellsFirst};
 ghost use Rattle.md_files.specs.Reports.{Shows, Imports};
 
@@ -35,6 +35,8 @@ fn show<T: Tree>(
         (inputs (T.content tree.old) (T.faults tree.old) script.told script.faults clock.told clock.faults)
         (inputs (T.content tree.new) (T.faults tree.new) script.told script.faults clock.told clock.faults)
         report.status) }
+    ensures content { T.content tree.new ≡ T.content tree.old }
+    ensures later { T.faults tree.old ≤ T.faults tree.new }
 {
     let made = md_files::show(alloc, tree, offset, raw, marker, names, files)?;
     Ok(of_files(made))
@@ -54,6 +56,8 @@ fn import<T: Tree>(
         (inputs (T.content tree.old) (T.faults tree.old) script.told script.faults clock.told clock.faults)
         (inputs (T.content tree.new) (T.faults tree.new) script.told script.faults clock.told clock.faults)
         report.status) }
+    ensures content { T.content tree.new ≡ T.content tree.old }
+    ensures later { T.faults tree.old ≤ T.faults tree.new }
 {
     let made = md_files::import(alloc, tree, offset, files)?;
     Ok(of_files(made))
@@ -77,6 +81,9 @@ pub(crate) fn asked<R: Threads + Sync, T: Tree, S: Source, C: Clock>(
         (inputs (T.content tree.old) (T.faults tree.old) (S.left script.old) (S.faults script.old) (C.moment clock.old) (C.faults clock.old))
         (inputs (T.content tree.new) (T.faults tree.new) (S.left script.new) (S.faults script.new) (C.moment clock.new) (C.faults clock.new))
         report.status) }
+    ensures leaves { Leaves command.now.what
+        (inputs (T.content tree.old) (T.faults tree.old) (S.left script.old) (S.faults script.old) (C.moment clock.old) (C.faults clock.old))
+        (inputs (T.content tree.new) (T.faults tree.new) (S.left script.new) (S.faults script.new) (C.moment clock.new) (C.faults clock.new)) }
 {
     let offset = command.offset;
     match &command.what {

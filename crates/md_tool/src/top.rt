@@ -4,7 +4,7 @@ ghost use Rattle.md_words.specs.Words.{texts};
 ghost use Rattle.md_words.specs.Grammar.{command_of, is_offered};
 ghost use Rattle.md_words.specs.declared.command.Command.{Command};
 ghost use Rattle.md_tool.specs.Outside.{inputs, outputs, TakesNothing};
-ghost use Rattle.md_tool.specs.Asking.{CommandAsks, WordsAsk, Prints, Ends};
+ghost use Rattle.md_tool.specs.Asking.{CommandAsks, WordsAsk, Leaves, Prints, Ends};
 ghost use Rattle.md_tool.specs.Causes.{Tells, InputFails, OutputFails, IsReady, IsWhole};
 
 use crate::report::{Report, usage};
@@ -55,6 +55,8 @@ pub fn run_tool<R: Threads + Sync, T: Tree, S: Source, C: Clock, K: Sink, E: Sin
     requires { is_offered command.now.what ≡ true }
     // What is printed, and the status that goes with it.
     ensures ends { Ends (CommandAsks command.now (inputs (T.content tree.old) (T.faults tree.old) (S.left script.old) (S.faults script.old) (C.moment clock.old) (C.faults clock.old)) (inputs (T.content tree.new) (T.faults tree.new) (S.left script.new) (S.faults script.new) (C.moment clock.new) (C.faults clock.new))) (outputs (E.taken err.old) (E.faults err.old) (K.taken out.old) (K.faults out.old)) (outputs (E.taken err.new) (E.faults err.new) (K.taken out.new) (K.faults out.new)) result.status }
+    // What stays, also where memory runs out: what the command does not name, and the content of the tree.
+    ensures leaves { Leaves command.now.what (inputs (T.content tree.old) (T.faults tree.old) (S.left script.old) (S.faults script.old) (C.moment clock.old) (C.faults clock.old)) (inputs (T.content tree.new) (T.faults tree.new) (S.left script.new) (S.faults script.new) (C.moment clock.new) (C.faults clock.new)) }
     // The cause of each status.
     ensures tells { Tells command.now.offset command.now.what (inputs (T.content tree.old) (T.faults tree.old) (S.left script.old) (S.faults script.old) (C.moment clock.old) (C.faults clock.old)) (inputs (T.content tree.new) (T.faults tree.new) (S.left script.new) (S.faults script.new) (C.moment clock.new) (C.faults clock.new)) result.status }
     ensures write_fault { result.status ≡ Status.WriteFault → OutputFails (outputs (E.taken err.old) (E.faults err.old) (K.taken out.old) (K.faults out.old)) (outputs (E.taken err.new) (E.faults err.new) (K.taken out.new) (K.faults out.new)) }
@@ -81,6 +83,10 @@ pub fn run<R: Threads + Sync, T: Tree, S: Source, C: Clock, K: Sink, E: Sink>(
 ) -> Outcome
     // What is printed, and the status that goes with it.
     ensures ends { Ends (WordsAsk (texts words.now) (inputs (T.content tree.old) (T.faults tree.old) (S.left script.old) (S.faults script.old) (C.moment clock.old) (C.faults clock.old)) (inputs (T.content tree.new) (T.faults tree.new) (S.left script.new) (S.faults script.new) (C.moment clock.new) (C.faults clock.new))) (outputs (E.taken err.old) (E.faults err.old) (K.taken out.old) (K.faults out.old)) (outputs (E.taken err.new) (E.faults err.new) (K.taken out.new) (K.faults out.new)) result.status }
+    // What stays, also where memory runs out: all where the words are not understood, and else what their command does not
+    // name, and the content of the tree.
+    ensures idle { command_of (texts words.now) ≡ None → inputs (T.content tree.new) (T.faults tree.new) (S.left script.new) (S.faults script.new) (C.moment clock.new) (C.faults clock.new) ≡ inputs (T.content tree.old) (T.faults tree.old) (S.left script.old) (S.faults script.old) (C.moment clock.old) (C.faults clock.old) }
+    ensures leaves { (command : Command) → command_of (texts words.now) ≡ Some command → Leaves command.what (inputs (T.content tree.old) (T.faults tree.old) (S.left script.old) (S.faults script.old) (C.moment clock.old) (C.faults clock.old)) (inputs (T.content tree.new) (T.faults tree.new) (S.left script.new) (S.faults script.new) (C.moment clock.new) (C.faults clock.new)) }
     // The cause of each status.
     ensures usage { result.status ≡ Status.Usage → command_of (texts words.now) ≡ None }
     ensures tells { (command : Command) → command_of (texts words.now) ≡ Some command → Tells command.offset command.what (inputs (T.content tree.old) (T.faults tree.old) (S.left script.old) (S.faults script.old) (C.moment clock.old) (C.faults clock.old)) (inputs (T.content tree.new) (T.faults tree.new) (S.left script.new) (S.faults script.new) (C.moment clock.new) (C.faults clock.new)) result.status }

@@ -7,8 +7,8 @@ use Rattle.md_tool.proofs.Ending.{ok_then, err_then, answers_refuses, answers_un
 use Rattle.md_live.proofs.Scripts.{few_lines}
 use Rattle.md_tool.proofs.live.answer.Goals as goal
 
-pub returns-in-Err : goal.returns-in-Err
-returns-in-Err g c =
+pub returns-in-Err-clause-asks : goal.returns-in-Err-clause-asks
+returns-in-Err-clause-asks g c =
     elim c.in-Err.ensures.refused [
       | inl v ↦ ok_then _ _ (answers_refuses c.args.offset c.args.bytes.now _ _ _ _ c.in-Err.error v refl refl) c.refused_script.result c.refused_script.ensures.report
       | inr want ↦ err_then _ c.refused_script.result (c.refused_script.ensures.memory want)
@@ -17,15 +17,15 @@ returns-in-Err g c =
 pub of_lines-requires-clause-few : goal.of_lines-requires-clause-few
 of_lines-requires-clause-few g c = rw c.lines.ensures (few_lines c.args.bytes.now c.in-Ok.script c.in-Ok.ensures.ok)
 
-pub returns-in-Ok-now : goal.returns-in-Ok-now
-returns-in-Ok-now g c =
+pub returns-in-Ok-now-clause-asks : goal.returns-in-Ok-now-clause-asks
+returns-in-Ok-now-clause-asks g c =
     let moment_fits : FitsSigned w64 c.in-Ok-now.now = search rules in
     let offset_fits : FitsSigned w32 c.args.offset = search rules in
     let read : verdict c.args.bytes.now ≡ Ok c.lines.result.now = c.in-Ok.ensures.ok ∙ ap (λ (lines : List Line). Ok lines) (sym c.lines.ensures) in
     let shown : IsShown (record { told = g.C.Clock.moment c.args.clock.now; faults = g.C.Clock.faults c.args.clock.now }) (record { told = g.C.Clock.moment c.now.new.self; faults = g.C.Clock.faults c.now.new.self }) c.in-Ok-now.now =
     record { range = c.in-Ok-now.ensures.range; told = c.in-Ok-now.ensures.told; kept = c.in-Ok-now.ensures.cause.kept } in
-    let made = simp to_z-of_z at c.of_lines.ensures in
+    let made = simp to_z-of_z at c.of_lines.ensures.asks in
     ok_then _ _ (answers_runs c.args.offset c.args.bytes.now _ _ _ _ c.lines.result.now c.in-Ok-now.now read shown) c.of_lines.result made
 
-pub returns : goal.returns
-returns g c = ok_then _ _ (answers_unclocked c.args.offset c.args.bytes.now _ _ _ _ c.in-Ok.script c.in-Ok.ensures.ok c.in-Err-now.ensures.cause.failed refl) c.no_clock.result c.no_clock.ensures
+pub returns-clause-asks : goal.returns-clause-asks
+returns-clause-asks g c = ok_then _ _ (answers_unclocked c.args.offset c.args.bytes.now _ _ _ _ c.in-Ok.script c.in-Ok.ensures.ok c.in-Err-now.ensures.cause.failed refl) c.no_clock.result c.no_clock.ensures

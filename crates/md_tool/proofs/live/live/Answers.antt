@@ -4,20 +4,21 @@ use Rattle.md_tool.proofs.LiveCauses.{live_tells}
 use Rattle.md_tool.proofs.Ending.{ok_then, lives_unread, lives_read}
 use Rattle.md_tool.proofs.live.live.Goals as goal
 
-pub returns-in-Err-Failed : goal.returns-in-Err-Failed
-returns-in-Err-Failed g c =
-    let asks = lives_unread c.args.offset
+pub returns-in-Err-Failed-clause-asks : goal.returns-in-Err-Failed-clause-asks
+returns-in-Err-Failed-clause-asks g c =
+    ok_then _ _ (lives_unread c.args.offset
     (inputs (g.T.Tree.content c.args.tree.now) (g.T.Tree.faults c.args.tree.now) (g.S.Source.left c.args.script.now) (g.S.Source.faults c.args.script.now) (g.C.Clock.moment c.args.clock.now) (g.C.Clock.faults c.args.clock.now))
     (inputs (g.T.Tree.content c.args.tree.now) (g.T.Tree.faults c.args.tree.now) (g.S.Source.left c.read_all.new.source) (g.S.Source.faults c.read_all.new.source) (g.C.Clock.moment c.args.clock.now) (g.C.Clock.faults c.args.clock.now))
-    (search rules) refl refl in
-    record {
-      asks = ok_then _ _ asks c.refusal.result c.refusal.ensures;
-      tells = ok_then _ _ (λ p e. live_tells c.args.offset _ _ p (asks p e)) c.refusal.result c.refusal.ensures;
-    }
+    (search rules) refl refl) c.refusal.result c.refusal.ensures
 
-pub returns-in_ok-report-in-Ok : goal.returns-in_ok-report-in-Ok
-returns-in_ok-report-in-Ok g c =
+pub returns-in-Err-Failed-clause-tells : goal.returns-in-Err-Failed-clause-tells
+returns-in-Err-Failed-clause-tells g c = ok_then _ _ (live_tells c.args.offset _ _) c.refusal.result (returns-in-Err-Failed-clause-asks g c)
+
+pub returns-in_ok-report-in-Ok-clause-asks : goal.returns-in_ok-report-in-Ok-clause-asks
+returns-in_ok-report-in-Ok-clause-asks g c =
     let read : IsRead (record { told = g.S.Source.left c.args.script.now; faults = g.S.Source.faults c.args.script.now }) (record { told = g.S.Source.left c.read_all.new.source; faults = g.S.Source.faults c.read_all.new.source }) c.in-Ok.bytes.items =
     record { taken = c.in-Ok.ensures.taken; end = search rules; told = c.in-Ok.ensures.bytes; kept = c.in-Ok.ensures.kept } in
-    let asks = lives_read c.args.offset _ _ c.in-Ok.bytes.items _ read (search rules) in
-    record { asks = asks; tells = live_tells c.args.offset _ _ _ asks }
+    lives_read c.args.offset _ _ c.in-Ok.bytes.items _ read (search rules)
+
+pub returns-in_ok-report-in-Ok-clause-tells : goal.returns-in_ok-report-in-Ok-clause-tells
+returns-in_ok-report-in-Ok-clause-tells g c = live_tells c.args.offset _ _ _ (returns-in_ok-report-in-Ok-clause-asks g c)

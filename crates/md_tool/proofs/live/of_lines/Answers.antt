@@ -4,15 +4,15 @@ use Rattle.md_tool.specs.Asking.LinesAsk.{run}
 use Rattle.md_tool.proofs.Ending.{ok_then, asks_misdated}
 use Rattle.md_tool.proofs.live.of_lines.Goals as goal
 
-pub returns-in-Some : goal.returns-in-Some
-returns-in-Some g c =
+pub returns-in-Some-clause-asks : goal.returns-in-Some-clause-asks
+returns-in-Some-clause-asks g c =
     let moment_fits : FitsSigned w64 c.args.now = search rules in
     let offset_fits : FitsSigned w32 c.args.offset = search rules in
     let told = simp to_z-of_z at c.out_of_range.ensures in
     ok_then _ _ (asks_misdated c.args.now c.args.offset c.args.lines.now _ _ c.in-Some.line c.in-Some.form (sym told ∙ c.in-Some.is) refl) c.line_out_of_range.result c.line_out_of_range.ensures
 
-pub returns : goal.returns
-returns g c =
+pub returns-clause-asks : goal.returns-clause-asks
+returns-clause-asks g c =
     let moment_fits : FitsSigned w64 c.args.now = search rules in
     let offset_fits : FitsSigned w32 c.args.offset = search rules in
     let told = simp to_z-of_z at c.out_of_range.ensures in

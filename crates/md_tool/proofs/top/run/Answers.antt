@@ -2,7 +2,7 @@ use Rattle.std.proofs.Common.{refl, rules}
 use Rattle.md_words.specs.Words.{texts}
 use Rattle.md_tool.specs.Outside.{inputs, outputs}
 use Rattle.md_tool.specs.Asking.Ends.{no_memory}
-use Rattle.md_tool.proofs.Ending.{ok_then, ends_of, ends_words, complete_words, asks_usage}
+use Rattle.md_tool.proofs.Ending.{ok_then, ends_of, ends_words, complete_words, leaves_same, leaves_words, asks_usage}
 use Rattle.md_tool.proofs.top.run.Goals as goal
 
 pub returns-in-Ok-clause-ends : goal.returns-in-Ok-clause-ends
@@ -15,6 +15,15 @@ returns-in-Ok-clause-complete g c =
     let before = outputs (g.E.Sink.taken c.args.err.now) (g.E.Sink.faults c.args.err.now) (g.K.Sink.taken c.args.out.now) (g.K.Sink.faults c.args.out.now) in
     let after = outputs (g.E.Sink.taken c.run_tool.new.err) (g.E.Sink.faults c.run_tool.new.err) (g.K.Sink.taken c.run_tool.new.out) (g.K.Sink.faults c.run_tool.new.out) in
     complete_words (texts c.args.words.now) old new before after c.run_tool.result.status c.in-Ok.command c.in-Ok.ensures.ok c.run_tool.ensures.complete
+
+pub returns-in-Ok-clause-leaves : goal.returns-in-Ok-clause-leaves
+returns-in-Ok-clause-leaves g c = leaves_words (texts c.args.words.now) _ _ c.in-Ok.command c.in-Ok.ensures.ok c.run_tool.ensures.leaves
+
+pub returns-in-Err-Usage-clause-leaves : goal.returns-in-Err-Usage-clause-leaves
+returns-in-Err-Usage-clause-leaves g c = λ command told. leaves_same command.what _
+
+pub returns-in-Err-Memory-clause-leaves : goal.returns-in-Err-Memory-clause-leaves
+returns-in-Err-Memory-clause-leaves g c = λ command told. leaves_same command.what _
 
 pub returns-in-Err-Usage-clause-ends : goal.returns-in-Err-Usage-clause-ends
 returns-in-Err-Usage-clause-ends g c =
