@@ -8,7 +8,8 @@ use Rattle.std.proofs.lemmas.Bool.{and_parts}
 use Rattle.std.proofs.lemmas.Bool.Decides.{nat_tests}
 use Rattle.std.proofs.lemmas.Str.Parse.{IsNumeralModel, numerals_by_fold, parse_signed_minus, parse_signed_plain}
 use Rattle.md_time.specs.IsoTexts.{number_after}
-use Rattle.imp_csv.specs.Numbers.{are_digits, digits_number, above_zero, below_zero, whole_number}
+use Rattle.md_value.specs.Numerals.{is_numeral}
+use Rattle.imp_csv.specs.Numbers.{digits_number, above_zero, below_zero, whole_number}
 
 own : IsNumeralModel (λ ds. all_ascii_digits ds ≡ true) (number_after 0)
 own = numerals_by_fold _ (search rules) number_after (search rules)
@@ -57,21 +58,21 @@ below_is ds false = refl
 
 plain_number : {E : Type 0} (ds : List ℕ) (r : Result ℤ E) → OkIff r (Digits ds × (0 < length ds) × (number_after 0 ds < 2 ^ 63)) (pos (number_after 0 ds)) → result_ok r ≡ option_and_then above_zero (digits_number ds)
 plain_number ds r h =
-    by_test r (pos (number_after 0 ds)) (are_digits ds && nat_lt (number_after 0 ds) (2 ^ 63)) h (λ t.
-    let parts = and_parts (are_digits ds) (nat_lt (number_after 0 ds) (2 ^ 63)) t in
+    by_test r (pos (number_after 0 ds)) (is_numeral ds && nat_lt (number_after 0 ds) (2 ^ 63)) h (λ t.
+    let parts = and_parts (is_numeral ds) (nat_lt (number_after 0 ds) (2 ^ 63)) t in
     let digits = and_parts (not (length ds == 0)) (all_ascii_digits ds) parts.0 in
     (digits.1, some (length ds) digits.0, below (number_after 0 ds) (2 ^ 63) parts.1))
     (λ p. rw (not_none (length ds) p.1, p.0, is_below (number_after 0 ds) (2 ^ 63) p.2) refl)
-    ∙ sym (above_is ds (are_digits ds))
+    ∙ sym (above_is ds (is_numeral ds))
 
 minus_number : {E : Type 0} (ds : List ℕ) (r : Result ℤ E) → OkIff r (Digits ds × (0 < length ds) × (number_after 0 ds ≤ 2 ^ 63)) (neg_ℤ (pos (number_after 0 ds))) → result_ok r ≡ option_and_then below_zero (digits_number ds)
 minus_number ds r h =
-    by_test r (neg_ℤ (pos (number_after 0 ds))) (are_digits ds && not (nat_lt (2 ^ 63) (number_after 0 ds))) h (λ t.
-    let parts = and_parts (are_digits ds) (not (nat_lt (2 ^ 63) (number_after 0 ds))) t in
+    by_test r (neg_ℤ (pos (number_after 0 ds))) (is_numeral ds && not (nat_lt (2 ^ 63) (number_after 0 ds))) h (λ t.
+    let parts = and_parts (is_numeral ds) (not (nat_lt (2 ^ 63) (number_after 0 ds))) t in
     let digits = and_parts (not (length ds == 0)) (all_ascii_digits ds) parts.0 in
     (digits.1, some (length ds) digits.0, most (number_after 0 ds) (2 ^ 63) parts.1))
     (λ p. rw (not_none (length ds) p.1, p.0, is_most (number_after 0 ds) (2 ^ 63) p.2) refl)
-    ∙ sym (below_is ds (are_digits ds))
+    ∙ sym (below_is ds (is_numeral ds))
 
 is_minus : (c : ℕ) → (c == 45) ≡ true → c ≡ 45
 is_minus c h = grind (arith, nat_tests)

@@ -1,16 +1,12 @@
 -- The whole numbers that texts write.
-use Rattle.std.specs.Prelude.{ℕ, ◌^◌, Bool, not, ◌==◌, ◌&&◌, nat_lt, List, [], ◌∷◌, length, if◌then◌else◌, Option, Some, None, ℤ, pos, neg_ℤ}
+use Rattle.std.specs.Prelude.{ℕ, ◌^◌, ◌==◌, nat_lt, List, [], ◌∷◌, if◌then◌else◌, Option, Some, None, ℤ, pos, neg_ℤ}
 use Rattle.std.specs.Option.{option_and_then}
-use Rattle.std.specs.Str.{all_ascii_digits}
+use Rattle.md_value.specs.Numerals.{is_numeral}
 use Rattle.md_time.specs.IsoTexts.{number_after}
-
--- one or more decimal digits
-abbrev pub are_digits : List ℕ → Bool
-are_digits text = not (length text == 0) && all_ascii_digits text
 
 -- the number that digits write
 abbrev pub digits_number : List ℕ → Option ℕ
-digits_number text = if are_digits text then Some (number_after 0 text) else None
+digits_number text = if is_numeral text then Some (number_after 0 text) else None
 
 -- the number, and the number below zero, where they have 64 bits with sign
 abbrev pub above_zero : ℕ → Option ℤ

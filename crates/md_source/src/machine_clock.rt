@@ -5,9 +5,11 @@ ghost use Rattle.md_source.specs.Adapters.{clock_faults};
 use crate::fault::count_fault;
 use crate::{Clock, Failed};
 use md_value::{HIGH, LOW};
+use std::io::ErrorKind;
 use std::time::{self, SystemTime, UNIX_EPOCH};
 
-/// The machine's clock. It fails where the system does, and where the time is before 1970.
+/// The machine's clock. It fails where the system does. A time before 1970 is answered by the beginning of 1970, the nearest
+/// moment that the library tells.
 #[derive(Drop)]
 pub struct MachineClock<R> {
     rt: R,
@@ -23,13 +25,14 @@ impl<R: time::Clock> MachineClock<R> {
     }
 }
 
-// Seconds since 1970.
+// Seconds since 1970, where the library's time begins: of an earlier one it says only that it is.
 fn seconds<R: time::Clock>(rt: &R) -> Result<u64, Failed> {
     match SystemTime::now(rt) {
         Ok(now) => match now.duration_since(UNIX_EPOCH) {
             Ok(duration) => Ok(duration.as_secs()),
-            Err(_) => Err(Failed),
+            Err(_) => Ok(0),
         },
+        Err(error) if error.kind() == ErrorKind::InvalidData => Ok(0),
         Err(_) => Err(Failed),
     }
 }

@@ -59,28 +59,28 @@ module _ (now offset : ℤ) (lines : List Line) (old new : Files) where
 
   fault_of_lines : (r : Report) → LinesAsk now offset lines old new r → r.status ≡ status.ReadFault → TreeFails old new
   fault_of_lines _ (misdated line number is same) e = cc
-  fault_of_lines _ (run made none ran same) e = fault_end old new made.end (runs_cause old.faults new.faults now offset lines made old.told ran) e
+  fault_of_lines _ (run made none ran same) e = fault_end old new made.end (runs_cause old.faults new.faults now offset lines made old.told ran.runs) e
 
   absent_of_lines : (content : Content) → old.told ≡ Some content → (r : Report) → LinesAsk now offset lines old new r → r.status ≡ status.Absent
       → tells_imports content lines ≡ false
   absent_of_lines content told _ (misdated line number is same) e = cc
   absent_of_lines content told _ (run made none ran same) e =
       at_some old.told (λ content. made.end ≡ ended.Absent → tells_imports content lines ≡ false) content told
-      (runs_absent old.faults new.faults now offset lines made old.told ran) (absent_end made.end e)
+      (runs_absent old.faults new.faults now offset lines made old.told ran.runs) (absent_end made.end e)
 
   complete_run : (told : Option Content) → TellsImports told lines → ¬ (TreeFails old new) → (made : files.Report) → Runs told old.faults new.faults now offset lines made
       → made.end ≡ ended.Ok
   complete_run None none quiet made ran =
       let empty : Content = record { folders = []; files = [] } in
       let same : Runs (Some empty) old.faults new.faults now offset lines made =
-      record { givens = ran.givens; given = none_given offset None (Some empty) old.faults new.faults lines ran.givens none ran.given; is = ran.is } in
+      record { givens = ran.givens; given = none_given offset None (Some empty) old.faults new.faults lines ran.givens none ran.given; counted = ran.counted; is = ran.is } in
       runs_complete old.faults new.faults now offset lines made (Some empty) same (rw none refl) quiet
   complete_run (Some content) told quiet made ran = runs_complete old.faults new.faults now offset lines made (Some content) ran told quiet
 
   whole_of_lines : out_of_range now offset lines ≡ None → TellsImports old.told lines → ¬ (TreeFails old new) → (r : Report) → LinesAsk now offset lines old new r
       → r.status ≡ status.Ok
   whole_of_lines none told quiet _ (misdated line number is same) = let wrong : None ≡ Some (line, number) = sym none ∙ is in cc (wrong)
-  whole_of_lines none told quiet _ (run made is ran same) = rw (complete_run old.told told quiet made ran) refl
+  whole_of_lines none told quiet _ (run made is ran same) = rw (complete_run old.told told quiet made ran.runs) refl
 
 -- what refuses a script has no other status than these
 script_status : (P : Status → Type 0) → P status.Script → P status.Memory → (e : ScriptError) → P (refused_script e).status

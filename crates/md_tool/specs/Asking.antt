@@ -10,7 +10,7 @@ use Rattle.md_find.specs.Searches.{search_of}
 use Rattle.md_find.specs.declared.finding.Found.{Found}
 use Rattle.md_find.specs.declared.finding.Output.{Output}
 use Rattle.md_find.specs.declared.finding.Output.TheVariants as output
-use Rattle.md_live.specs.Reports.{Runs}
+use Rattle.md_live.specs.Headline.{Headline}
 use Rattle.md_live.specs.TimeForms.{out_of_range}
 use Rattle.md_script.specs.declared.script.Line.{Line}
 use Rattle.md_script.specs.declared.script.ScriptError.{ScriptError}
@@ -38,7 +38,7 @@ pub record OfFiles (old new : Inputs) (Makes : files.Report → Type 0) (report 
 -- What the lines of a script ask of the tree now at an offset: nothing where a form of time is out of range.
 pub data LinesAsk (now offset : ℤ) (lines : List Line) (old new : Files) : Report → Type 0 where
   misdated : (line form : ℕ) → out_of_range now offset lines ≡ Some (line, form) → new ≡ old → LinesAsk now offset lines old new (line_out_of_range line form)
-  run : (made : files.Report) → out_of_range now offset lines ≡ None → Runs old.told old.faults new.faults now offset lines made → new.told ≡ old.told
+  run : (made : files.Report) → out_of_range now offset lines ≡ None → Headline old.told old.faults new.faults now offset lines made → new.told ≡ old.told
       → LinesAsk now offset lines old new (of_files made)
 
 -- What a script in bytes asks of the clock, before and after, and of the tree: the clock is read only where the script is

@@ -16,5 +16,5 @@ returns-clause-asks g c =
     let moment_fits : FitsSigned w64 c.args.now = search rules in
     let offset_fits : FitsSigned w32 c.args.offset = search rules in
     let told = simp to_z-of_z at c.out_of_range.ensures in
-    let ran = simp to_z-of_z at c.in_ok-made.ensures.runs in
+    let ran = simp to_z-of_z at c.in_ok-made.ensures.headline in
     rw c.of_files.ensures (run c.in_ok-made.made (sym told ∙ c.in_default.is) ran c.in_ok-made.ensures.content)
