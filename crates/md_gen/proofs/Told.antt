@@ -117,37 +117,15 @@ unfolding query_by
 told_query client asked update says some sized =
     told_sized (query_text client) (what.Query client 1 asked.expr [] [] (batch_of update)) (says ∙ ap (λ r. says_query client update (result_ok r)) asked.read ∙ rw some refl) asked.timely sized
 
-told_query_0 : IsTold (query_text 0)
-unfolding said is_utf8 chars encode says_nothing said_by first_word command_of client_of number_below asked_by after_word number_of query_of asked_of choice_of choice_by number_choice expression_of expression digits
-told_query_0 = told_query 0 asked_0 (None) refl refl refl
-
-told_query_1 : IsTold (query_text 1)
-unfolding said is_utf8 chars encode says_nothing said_by first_word command_of client_of number_below asked_by after_word number_of query_of asked_of choice_of choice_by number_choice expression_of expression digits
-told_query_1 = told_query 1 asked_1 (None) refl refl refl
-
-told_query_2 : IsTold (query_text 2)
-unfolding said is_utf8 chars encode says_nothing said_by first_word command_of client_of number_below asked_by after_word number_of query_of asked_of choice_of choice_by number_choice expression_of expression digits
-told_query_2 = told_query 2 asked_2 (None) refl refl refl
-
-told_query_3 : IsTold (query_text 3)
-unfolding said is_utf8 chars encode says_nothing said_by first_word command_of client_of number_below asked_by after_word number_of query_of asked_of choice_of choice_by number_choice expression_of expression digits
-told_query_3 = told_query 3 asked_3 (None) refl refl refl
-
-told_query_4 : IsTold (query_text 4)
-unfolding said is_utf8 chars encode says_nothing said_by first_word command_of client_of number_below asked_by after_word number_of query_of asked_of choice_of choice_by number_choice expression_of expression digits
-told_query_4 = told_query 4 asked_4 (Some 5) refl refl refl
-
-told_query_5 : IsTold (query_text 5)
-unfolding said is_utf8 chars encode says_nothing said_by first_word command_of client_of number_below asked_by after_word number_of query_of asked_of choice_of choice_by number_choice expression_of expression digits
-told_query_5 = told_query 5 asked_5 (Some 5) refl refl refl
-
-told_query_6 : IsTold (query_text 6)
-unfolding said is_utf8 chars encode says_nothing said_by first_word command_of client_of number_below asked_by after_word number_of query_of asked_of choice_of choice_by number_choice expression_of expression digits
-told_query_6 = told_query 6 asked_6 (Some 5) refl refl refl
-
-told_query_7 : IsTold (query_text 7)
-unfolding said is_utf8 chars encode says_nothing said_by first_word command_of client_of number_below asked_by after_word number_of query_of asked_of choice_of choice_by number_choice expression_of expression digits
-told_query_7 = told_query 7 asked_7 (Some 5) refl refl refl
-
 pub told_queries : (client : ℕ) → client < 8 → IsTold (query_text client)
-told_queries = below_8 (λ client. IsTold (query_text client)) told_query_0 told_query_1 told_query_2 told_query_3 told_query_4 told_query_5 told_query_6 told_query_7
+unfolding said is_utf8 chars encode says_nothing said_by first_word command_of client_of number_below asked_by after_word number_of query_of asked_of choice_of choice_by number_choice expression_of expression digits
+told_queries =
+    below_8 (λ client. IsTold (query_text client))
+    (told_query 0 asked_0 None refl refl refl)
+    (told_query 1 asked_1 None refl refl refl)
+    (told_query 2 asked_2 None refl refl refl)
+    (told_query 3 asked_3 None refl refl refl)
+    (told_query 4 asked_4 (Some 5) refl refl refl)
+    (told_query 5 asked_5 (Some 5) refl refl refl)
+    (told_query 6 asked_6 (Some 5) refl refl refl)
+    (told_query 7 asked_7 (Some 5) refl refl refl)
