@@ -19,4 +19,5 @@ mod word;
 
 pub use command::{Command, Mode, Tool, WordsError};
 pub use read::read_words;
+pub use tools::MOST_MADE;
 pub use word::Word;

@@ -20,7 +20,7 @@ fn words_of(rt: &(impl Env + AllocGlobal), alloc: Global) -> io::Result<Vec<Stri
 }
 
 // The status of the top call. What its contract says is no concern of the caller's.
-fn status_of<R: Threads + Sync, T: Tree, S: Source, C: Clock, K: Sink, E: Sink>(
+fn status_of<R: Threads + Sync + AllocGlobal, T: Tree, S: Source, C: Clock, K: Sink, E: Sink>(
     rt: &R,
     words: &[String],
     tree: &mut T,

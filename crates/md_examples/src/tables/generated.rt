@@ -1,7 +1,8 @@
 // Files and scripts that are made from a number.
 use super::field::{Field, RowError};
 use super::sums::Sum;
-use md_gen::{MOST_FILES, Made, make};
+use md_gen::{Made, make};
+use md_words::MOST_MADE;
 use std::alloc::Global;
 
 fn made(alloc: Global, fields: &[Field]) -> Result<Made, RowError> {
@@ -10,7 +11,7 @@ fn made(alloc: Global, fields: &[Field]) -> Result<Made, RowError> {
     };
     let start = start.unsigned()?;
     let count = count.count()?;
-    if count < 1 || MOST_FILES < count {
+    if count < 1 || MOST_MADE < count {
         return Err(RowError::Field);
     }
     Ok(make(alloc, start, count)?)
