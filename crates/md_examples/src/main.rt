@@ -4,15 +4,13 @@
 //! `tables` over the public calls of the crates below it. `docs/TESTING.md` says how such a file is written.
 #![tactic(auto)]
 
-mod escapes;
 mod examples;
-mod tables;
 
 use std::io;
 use std::process::ExitCode;
 
 fn main(rt: HostRuntime) -> io::Result<ExitCode> {
-    let tables_agree = tables::run(&rt)?;
+    let tables_agree = md_tables::run(&rt)?;
     let tally = examples::run(&rt, "examples")?;
     println!(rt; "{tally}")?;
     Ok(if tables_agree && tally.all_passed() {

@@ -1,9 +1,9 @@
 // The files of an example's tree.
-use crate::escapes::turns_of;
 use crate::examples::archive::Section;
 use crate::examples::fault::Fault;
 use crate::examples::header::{FileSetting, Settings, push_folders};
 use md_source::Entry;
+use md_tables::turns_of;
 use md_value::{Items, Path, PathError};
 use std::alloc::{AllocError, Global};
 

@@ -1,5 +1,5 @@
 // Scripts.
-use super::field::{Field, RowError};
+use crate::field::{Field, RowError};
 use md_machine::Batch;
 use md_script::{Line, ScriptError, What, read_script};
 use md_world::Order;

@@ -1,6 +1,6 @@
 // Printed texts.
-use super::field::{Field, RowError};
-use super::notation::{attributes_of, fault_of};
+use crate::field::{Field, RowError};
+use crate::notation::{attributes_of, fault_of};
 use md_print::{Failure, attrs_text, failure_text, fault_text, shown_path};
 use md_value::{Name, Path};
 use std::alloc::Global;

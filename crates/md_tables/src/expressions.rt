@@ -1,6 +1,6 @@
 // Expressions and filters.
-use super::field::{Field, RowError, yes_or_no};
-use super::notation::attributes_of;
+use crate::field::{Field, RowError, yes_or_no};
+use crate::notation::attributes_of;
 use md_expr::{Expr, ReadError, interpret, named, print, read};
 use md_match::{Filter, FilterError};
 use md_value::Path;

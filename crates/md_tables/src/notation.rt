@@ -2,7 +2,7 @@
 ghost use Rattle.std.specs.Prelude.{IfOk, All};
 ghost use Rattle.md_value.specs.Values.{IsInRange};
 
-use super::field::RowError;
+use crate::field::RowError;
 use md_value::{Attrs, Fault, FillFault, HIGH, LOW, Name, PutError, Text, Value};
 use std::alloc::{AllocError, Global};
 

@@ -1,6 +1,6 @@
 // Moments of time.
-use super::field::{Field, RowError};
-use super::sums::Sum;
+use crate::field::{Field, RowError};
+use crate::sums::Sum;
 use md_time::{Form, IsoText, OutOfRange, print_moment, read_moment};
 use md_value::{HIGH, LOW};
 use std::alloc::{AllocError, Global};

@@ -1,6 +1,6 @@
 // Names, paths and attributes.
-use super::field::{Field, RowError, yes_or_no};
-use super::notation::{put, shown_attributes};
+use crate::field::{Field, RowError, yes_or_no};
+use crate::notation::{put, shown_attributes};
 use md_value::{Attrs, Kind, Name, NameError, Path, PathError, schema_of};
 use std::alloc::Global;
 

@@ -1,6 +1,6 @@
 // The tables, and the calls that they ask.
-use super::field::{Field, RowError};
-use super::{
+use crate::field::{Field, RowError};
+use crate::{
     commands, expressions, generated, imports, moments, orders, printed, scripts, texts, values,
 };
 use std::alloc::Global;

@@ -1,6 +1,6 @@
 // Imports of files.
-use super::field::{Field, RowError};
-use super::notation::{shown_attributes, shown_fault, shown_filled};
+use crate::field::{Field, RowError};
+use crate::notation::{shown_attributes, shown_fault, shown_filled};
 use imp_kind::{FileKind, Imported, import, kind_of};
 use md_source::Entry;
 use md_value::Path;

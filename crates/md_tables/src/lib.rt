@@ -1,6 +1,12 @@
-// Tables of calls: rows of files, each with what a call is asked and what it is to answer.
+//! Tables of calls: rows of files, each with what a public call is asked and what another program, or the text of a rule,
+//! says that it answers.
+//!
+//! [`run`] compares all tables, which it reads from the folder `tables`. [`unescape`] reads the escapes of their fields and
+//! of the examples. `docs/TESTING.md` says how a table is written.
+#![tactic(auto)]
 
 mod commands;
+mod escapes;
 mod expressions;
 mod field;
 mod generated;
@@ -15,9 +21,9 @@ mod table;
 mod texts;
 mod values;
 
-use self::field::{Field, RowError};
-use self::table::{Call, TABLES};
-use crate::escapes::escape;
+use crate::field::{Field, RowError};
+use crate::table::{Call, TABLES};
+pub use escapes::{escape, turns_of, unescape};
 use std::alloc::{AllocError, Global};
 use std::fs::{self, Files};
 use std::io;

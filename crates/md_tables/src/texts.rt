@@ -1,6 +1,6 @@
 // Keys of texts and patterns.
-use super::field::{Field, RowError, yes_or_no};
-use super::sums::Sum;
+use crate::field::{Field, RowError, yes_or_no};
+use crate::sums::Sum;
 use md_text::{Key, Pattern};
 use md_value::Text;
 use std::alloc::{AllocError, Global};

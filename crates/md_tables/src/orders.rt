@@ -1,6 +1,6 @@
 // Rows in order.
-use super::field::{Field, RowError};
-use super::notation::attributes_of;
+use crate::field::{Field, RowError};
+use crate::notation::attributes_of;
 use md_sort::Sorted;
 use md_value::{Name, Path};
 use md_world::{Order, Row, SortKey};
