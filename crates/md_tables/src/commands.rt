@@ -1,5 +1,5 @@
 // The words of commands.
-use crate::field::{Field, RowError};
+use md_rows::{Field, RowError};
 use md_value::{Items, Name, Path};
 use md_words::{Command, Mode, Tool, Word, WordsError, read_words};
 use std::alloc::{AllocError, Global};

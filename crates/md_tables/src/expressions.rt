@@ -1,8 +1,7 @@
 // Expressions and filters.
-use crate::field::{Field, RowError, yes_or_no};
-use crate::notation::attributes_of;
 use md_expr::{Expr, ReadError, interpret, named, print, read};
 use md_match::{Filter, FilterError};
+use md_rows::{Field, RowError, attributes_of, yes_or_no};
 use md_value::Path;
 use md_world::Row;
 use std::alloc::Global;

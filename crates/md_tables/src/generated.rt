@@ -1,7 +1,6 @@
 // Files and scripts that are made from a number.
-use crate::field::{Field, RowError};
-use crate::sums::Sum;
 use md_gen::{Made, make};
+use md_rows::{Field, RowError, Sum};
 use md_words::MOST_MADE;
 use std::alloc::Global;
 

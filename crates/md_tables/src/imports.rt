@@ -1,7 +1,6 @@
 // Imports of files.
-use crate::field::{Field, RowError};
-use crate::notation::{shown_attributes, shown_fault, shown_filled};
 use imp_kind::{FileKind, Imported, import, kind_of};
+use md_rows::{Field, RowError, shown_attributes, shown_fault, shown_filled};
 use md_source::Entry;
 use md_value::Path;
 use std::alloc::Global;

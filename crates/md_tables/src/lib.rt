@@ -1,29 +1,23 @@
 //! Tables of calls: rows of files, each with what a public call is asked and what another program, or the text of a rule,
 //! says that it answers.
 //!
-//! [`run`] compares all tables, which it reads from the folder `tables`. [`unescape`] reads the escapes of their fields and
-//! of the examples. `docs/TESTING.md` says how a table is written.
+//! [`run`] compares all tables, which it reads from the folder `tables`. `docs/TESTING.md` says how a table is written.
 #![tactic(auto)]
 
 mod commands;
-mod escapes;
 mod expressions;
-mod field;
 mod generated;
 mod imports;
 mod moments;
-mod notation;
 mod orders;
 mod printed;
 mod scripts;
-mod sums;
 mod table;
 mod texts;
 mod values;
 
-use crate::field::{Field, RowError};
 use crate::table::{Call, TABLES};
-pub use escapes::{escape, turns_of, unescape};
+use md_rows::{Field, RowError, escape};
 use std::alloc::{AllocError, Global};
 use std::fs::{self, Files};
 use std::io;

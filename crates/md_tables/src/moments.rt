@@ -1,6 +1,5 @@
 // Moments of time.
-use crate::field::{Field, RowError};
-use crate::sums::Sum;
+use md_rows::{Field, RowError, Sum};
 use md_time::{Form, IsoText, OutOfRange, print_moment, read_moment};
 use md_value::{HIGH, LOW};
 use std::alloc::{AllocError, Global};

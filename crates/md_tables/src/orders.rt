@@ -1,6 +1,5 @@
 // Rows in order.
-use crate::field::{Field, RowError};
-use crate::notation::attributes_of;
+use md_rows::{Field, RowError, attributes_of};
 use md_sort::Sorted;
 use md_value::{Name, Path};
 use md_world::{Order, Row, SortKey};

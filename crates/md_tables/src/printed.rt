@@ -1,7 +1,6 @@
 // Printed texts.
-use crate::field::{Field, RowError};
-use crate::notation::{attributes_of, fault_of};
 use md_print::{Failure, attrs_text, failure_text, fault_text, shown_path};
+use md_rows::{Field, RowError, attributes_of, fault_of};
 use md_value::{Name, Path};
 use std::alloc::Global;
 

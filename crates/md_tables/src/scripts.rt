@@ -1,6 +1,6 @@
 // Scripts.
-use crate::field::{Field, RowError};
 use md_machine::Batch;
+use md_rows::{Field, RowError};
 use md_script::{Line, ScriptError, What, read_script};
 use md_world::Order;
 use std::alloc::{AllocError, Global};

@@ -1,8 +1,8 @@
 // The tables, and the calls that they ask.
-use crate::field::{Field, RowError};
 use crate::{
     commands, expressions, generated, imports, moments, orders, printed, scripts, texts, values,
 };
+use md_rows::{Field, RowError};
 use std::alloc::Global;
 
 /// A call whose answers stand in tables.

@@ -1,6 +1,5 @@
 // Keys of texts and patterns.
-use crate::field::{Field, RowError, yes_or_no};
-use crate::sums::Sum;
+use md_rows::{Field, RowError, Sum, yes_or_no};
 use md_text::{Key, Pattern};
 use md_value::Text;
 use std::alloc::{AllocError, Global};

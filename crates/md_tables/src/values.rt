@@ -1,6 +1,5 @@
 // Names, paths and attributes.
-use crate::field::{Field, RowError, yes_or_no};
-use crate::notation::{put, shown_attributes};
+use md_rows::{Field, RowError, put, shown_attributes, yes_or_no};
 use md_value::{Attrs, Kind, Name, NameError, Path, PathError, schema_of};
 use std::alloc::Global;
 

@@ -1,6 +1,6 @@
 // The form of an example's file: a header, and sections below it, as in a `txtar` archive of Go.
 use crate::examples::fault::Fault;
-use md_tables::unescape;
+use md_rows::unescape;
 use std::alloc::{AllocError, Global};
 
 /// A line of the header.

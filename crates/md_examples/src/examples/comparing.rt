@@ -1,5 +1,5 @@
 // What a run printed, and where it differs from what is wanted.
-use md_tables::escape;
+use md_rows::escape;
 use std::alloc::{AllocError, Global};
 
 /// What a run printed, or is to print.

@@ -2,8 +2,8 @@
 use crate::examples::archive::Section;
 use crate::examples::fault::Fault;
 use crate::examples::header::{FileSetting, Settings, push_folders};
+use md_rows::turns_of;
 use md_source::Entry;
-use md_tables::turns_of;
 use md_value::{Items, Path, PathError};
 use std::alloc::{AllocError, Global};
 
