@@ -1,8 +1,10 @@
 //! Tests of what neither an example nor a row of a table reaches: the adapters over a real folder, real readers and writers,
-//! and the machine's clock.
+//! the machine's clock, and replies of the server that no script brings about.
 #![tactic(auto)]
 
 #[cfg(test)]
 mod folders;
+#[cfg(test)]
+mod servers;
 #[cfg(test)]
 mod streams;
