@@ -1,0 +1,6 @@
+pub mod Jobs
+pub mod Journals
+pub mod Merging
+pub mod Laws
+pub mod Joining
+pub mod Closing
