@@ -7,5 +7,5 @@ use Rattle.md_index.proofs.range.push_places.Goals as goal
 pub returns : goal.returns
 returns c =
     on_ok_weaker c.push_counted.result
-    (λ told p. told p ∙ ap (λ b. lists c.args.places.now.items p || b) (counted_is c.args.flags.now c.push_counted.ensures.ordered p))
+    (λ says p. says p ∙ ap (λ b. lists c.args.places.now.items p || b) (counted_is c.args.flags.now c.push_counted.ensures.ordered p))
     c.push_counted.ensures.counted
