@@ -10,6 +10,7 @@ use Rattle.md_value.proofs.Equals.{both, attrs_exact}
 use Rattle.md_world.specs.declared.Row.{Row}
 use Rattle.md_world.specs.declared.Change.{Change}
 use Rattle.md_world.specs.declared.Change.TheVariants.{Put, Remove}
+pub use Rattle.md_world.specs.Tables.{row_of}
 use Rattle.md_world.specs.Tables.{after, StandAfter, IsTable, at, rows_before, rows_after, with_row, without_path, same_row}
 
 -- cases of a test, each with what the test gave
@@ -176,11 +177,6 @@ at-without_path rows q p =
     by_test (is_same q p)
     (λ e. rw e (at_failed (λ row. not (is_same row.path q)) p (λ row h. ap not (ap (λ v. is_same v q) (h ∙ sym (same_exact q p e)) ∙ same_refl q)) rows))
     (λ e. rw e (at_passed (λ row. not (is_same row.path q)) p (λ row h. ap not (ap (λ v. is_same v q) h ∙ same_sym_false q p e)) rows))
-
--- the row that a change makes of a path
-abbrev pub row_of : PathBytes → Change → Option Row
-row_of path (Put attrs) = Some (record { path = path; attrs = attrs })
-row_of path Remove = None
 
 -- what there is at a path after a commit
 pub at-after : (rows : List Row) (q : PathBytes) (change : Change) (p : PathBytes) → at (after rows q change) p ≡ cond (is_same q p) (row_of q change) (at rows p)
