@@ -200,10 +200,7 @@ impl Wanted {
                     marks,
                 },
                 Value::Text(text),
-            ) => {
-                let key = Key::of(alloc, text.as_str(), *fold, *marks)?;
-                Ok(pattern.matches(&key))
-            }
+            ) => pattern.matches(alloc, text.as_str(), *fold, *marks),
             (
                 Wanted::Stands {
                     op,
