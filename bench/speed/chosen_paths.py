@@ -5,15 +5,15 @@
 
 The hasher has a fixed seed: it takes the number of a path's bytes and then each byte into a state of 64 bits. `PAIRS` has
 two texts for each of 17 places that leave the same state, so the 131,072 paths of one text for each place have one hash.
-A birthday search found them, place by place. Prints the seconds of both; the chosen paths may take at most 5 times
+A birthday search found them, place by place. Prints the processor seconds of both; the chosen paths may take at most 5 times
 those of the random ones, and then the last line is 'ok'. The program is built before.
 """
 import itertools
 import pathlib
 import random
+import resource
 import subprocess
 import sys
-import time
 
 TOP = pathlib.Path(__file__).resolve().parents[2]
 MOST_TIMES = 5
@@ -73,13 +73,14 @@ def random_paths(count):
 
 
 def seconds(paths):
+    """The processor seconds of a run."""
     script = "".join(f"put {path} x\n" for path in paths).encode()
-    begin = time.monotonic()
+    before = resource.getrusage(resource.RUSAGE_CHILDREN)
     run = subprocess.run([TOP / "crates/mdserve/out/mdserve", "live"], input=script, stdout=subprocess.PIPE, check=True)
-    took = time.monotonic() - begin
+    after = resource.getrusage(resource.RUSAGE_CHILDREN)
     if run.stdout.count(b" committed ") != len(paths):
         sys.exit("not every put was committed")
-    return took
+    return after.ru_utime + after.ru_stime - before.ru_utime - before.ru_stime
 
 
 def main():

@@ -6,6 +6,7 @@ for each call that is reached, and once with a call that fails after the last.
 
 import pathlib
 import subprocess
+import sys
 import tempfile
 
 from examples import TOP
@@ -34,7 +35,11 @@ def variants(failing):
 def results():
     """A fault or None for each call that fails."""
     crate = TOP / "crates/md_examples"
+    program = crate / "out/md_examples"
+    # It builds the program; where that is run says nothing here.
     subprocess.run(["rt", "run"], cwd=crate, stdout=subprocess.DEVNULL, stderr=subprocess.DEVNULL)
+    if not program.exists():
+        sys.exit("md_examples could not be built")
     with tempfile.TemporaryDirectory() as folder:
         # The program reads tables first, and goes on to the examples where there are none.
         (pathlib.Path(folder) / "tables").mkdir()
@@ -45,7 +50,7 @@ def results():
             for name, settings, wanted in variants(failing):
                 (topic / f"{name}.txt").write_bytes(failing.example.failing(settings, wanted))
                 names.append(f"{topic.name}/{name}")
-        ran = subprocess.run([crate / "out/md_examples"], cwd=folder, stdout=subprocess.PIPE, text=True)
+        ran = subprocess.run([program], cwd=folder, stdout=subprocess.PIPE, text=True)
         passed = set(ran.stdout.splitlines())
         for name in names:
             yield None if f"{name} ok" in passed else f"{name}: not as wanted"

@@ -23,11 +23,11 @@ EXAMPLES = ["readme/first-run", "parts/of-two-hits"]
 PROGRAM = r"""//! Sends events to servers, each again where it is answered `Memory`, and prints their journals.
 #![tactic(auto)]
 
-use md_expr::{ReadError, read};
+use md_expr::read;
 use md_hub::Hub;
 use md_machine::{Batch, Event, Reply, Spec};
 use md_render::push_entry;
-use md_value::{Attrs, Name, Path, PathError, Text, Value};
+use md_value::{Attrs, Name, Path, Text, Value};
 use md_world::{Change, Limits, Order};
 use std::alloc::{AllocError, Global};
 use std::io;
@@ -39,14 +39,13 @@ fn path(alloc: Global, text: &str) -> Result<Path, AllocError> {
     }
 }
 
-fn attributes(alloc: Global, file: &str) -> Result<Attrs, AllocError> {
-    let values = vec![in alloc; Value::Text(Text::of(alloc, file)?)]?;
-    let mut attrs = Attrs::new(alloc);
-    let Ok(name) = Name::read(alloc, "kMDItemFSName") else {
+fn set(alloc: Global, attrs: &mut Attrs, name: &str, text: &str) -> Result<(), AllocError> {
+    let values = vec![in alloc; Value::Text(Text::of(alloc, text)?)]?;
+    let Ok(name) = Name::read(alloc, name) else {
         return Err(AllocError);
     };
     match attrs.put(name, values) {
-        Ok(()) => Ok(attrs),
+        Ok(()) => Ok(()),
         Err(_) => Err(AllocError),
     }
 }
@@ -57,10 +56,14 @@ fn push_put(
     events: &mut Vec<Event>,
     ticket: u32,
     file: &str,
+    content: &str,
 ) -> Result<(), AllocError> {
     let path = path(alloc, file)?;
     events.push(Event::Draw { path })?;
-    let change = Change::Put(attributes(alloc, file)?);
+    let mut attrs = Attrs::new(alloc);
+    set(alloc, &mut attrs, "kMDItemFSName", file)?;
+    set(alloc, &mut attrs, "kMDItemTextContent", content)?;
+    let change = Change::Put(attrs);
     events.push(Event::Commit { ticket, change })?;
     Ok(())
 }
@@ -101,20 +104,20 @@ fn poll() -> Event {
 
 fn first_run(alloc: Global) -> Result<Vec<Event>, AllocError> {
     let mut events = Vec::new(alloc);
-    push_put(alloc, &mut events, 1, "a.txt")?;
+    push_put(alloc, &mut events, 1, "a.txt", "one")?;
     events.push(create(alloc, "kMDItemFSName == \"a.txt\"", Batch::NONE)?)?;
     events.push(gather())?;
-    push_put(alloc, &mut events, 2, "a.txt")?;
+    push_put(alloc, &mut events, 2, "a.txt", "two")?;
     events.push(poll())?;
     Ok(events)
 }
 
 fn parts(alloc: Global) -> Result<Vec<Event>, AllocError> {
     let mut events = Vec::new(alloc);
-    push_put(alloc, &mut events, 1, "a.txt")?;
-    push_put(alloc, &mut events, 2, "b.txt")?;
-    push_put(alloc, &mut events, 3, "c.txt")?;
-    push_put(alloc, &mut events, 4, "d.txt")?;
+    push_put(alloc, &mut events, 1, "a.txt", "x")?;
+    push_put(alloc, &mut events, 2, "b.txt", "x")?;
+    push_put(alloc, &mut events, 3, "c.txt", "x")?;
+    push_put(alloc, &mut events, 4, "d.txt", "x")?;
     let batch = Batch {
         first: Some(2),
         progress: Some(2),
