@@ -244,22 +244,22 @@ numbers places (m ∷ found) h =
     ap (λ (o : Option ℕ). o ∷ map (λ (m : Bor PathBytes × ℕ). Some m.1) found) head ∙ ap (λ rest. place_in places m.0.now ∷ rest) (numbers places found h.1)
 
 -- the entries of a version, sorted by path, have the places of its table's paths in turn
-pub in_order : (n : ℕ) (places : List Place) (found sorted : List (Bor PathBytes × ℕ)) → ArePlaces n places → map bare_named found ≡ live_from 0 places n → IsPermutation found sorted
+pub in_order : (n v : ℕ) (places : List Place) (found sorted : List (Bor PathBytes × ℕ)) → ArePlaces n places → map bare_named found ≡ live_from 0 places v → IsPermutation found sorted
     → ((k : ℕ) (d : Bor PathBytes × ℕ) → k + 1 < length sorted → is_before (get_or sorted (k + 1) d).0.now (get_or sorted k d).0.now ≡ false)
-    → map (λ (m : Bor PathBytes × ℕ). Some m.1) sorted ≡ map (place_in places) (paths_of (table_at places n))
-in_order n places found sorted h live moved up =
-    let table = table_at places n in
+    → map (λ (m : Bor PathBytes × ℕ). Some m.1) sorted ≡ map (place_in places) (paths_of (table_at places v))
+in_order n v places found sorted h live moved up =
+    let table = table_at places v in
     let once : ((p : PathBytes) → times p (keys sorted) ≤ 1) = λ p.
     subst (λ (k : ℕ). k ≤ 1)
     (sym (times_found p sorted ∙ sum_by-IsPermutation (λ (m : Bor PathBytes × ℕ). cond (is_same m.0.now p) 1 0) found sorted moved ∙ sym (times_found p found) ∙ ap (times p) (keys_bare found) ∙ ap (λ l. times p (firsts l)) live))
-    (times_live n n 0 p places h) in
+    (times_live n v 0 p places h) in
     let members : ((p : PathBytes) → lists_path (keys sorted) p ≡ lists_path (paths_of table) p) = λ p.
     any_keys p sorted ∙ sym (list_any-IsPermutation (λ (m : Bor PathBytes × ℕ). is_same m.0.now p) found sorted moved) ∙ sym (any_keys p found) ∙ ap (λ ks. lists_path ks p) (keys_bare found)
-    ∙ ap (λ l. lists_path (firsts l) p) live ∙ listed_live n n 0 p places h ∙ ap is_some (sym (at-table n n p places h)) ∙ sym (lists-paths_of table p) in
+    ∙ ap (λ l. lists_path (firsts l) p) live ∙ listed_live n v 0 p places h ∙ ap is_some (sym (at-table n v p places h)) ∙ sym (lists-paths_of table p) in
     let paths : keys sorted ≡ paths_of table =
-    same_paths (keys sorted) (paths_of table) (ascends (keys sorted) (never_less sorted up) once) (table_bare table (table_with_rows [] (rows_seen places n) tt)) members in
+    same_paths (keys sorted) (paths_of table) (ascends (keys sorted) (never_less sorted up) once) (table_bare table (table_with_rows [] (rows_seen places v) tt)) members in
     let own : AllByRecursion (λ m. HasPlace 0 places (bare_named m)) sorted =
-    in_turn (λ m. HasPlace 0 places (bare_named m)) sorted (All-permutation (λ m. HasPlace 0 places (bare_named m)) found sorted moved (all_map (HasPlace 0 places) found (subst (AllByRecursion (HasPlace 0 places)) (sym live) (places_live n n 0 places h)))) in
+    in_turn (λ m. HasPlace 0 places (bare_named m)) sorted (All-permutation (λ m. HasPlace 0 places (bare_named m)) found sorted moved (all_map (HasPlace 0 places) found (subst (AllByRecursion (HasPlace 0 places)) (sym live) (places_live n v 0 places h)))) in
     numbers places sorted own ∙ ap (map (place_in places)) paths
 
 -- what is not less by two tests in turn is not less by the first

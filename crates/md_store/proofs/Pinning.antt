@@ -1,5 +1,5 @@
 -- Pins that are searched, added and taken away.
-use Rattle.std.proofs.Common.{◌≡◌, ℕ, zero, suc, ◌+◌, ◌<◌, ◌≤◌, Bool, true, false, cond, List, [], ◌∷◌, ◌++◌, length, get_or, insert, refl, sym, ap, subst, ◌∙◌, arith}
+use Rattle.std.proofs.Common.{◌≡◌, ℕ, zero, suc, ◌+◌, ◌<◌, ◌≤◌, Bool, true, false, List, [], ◌∷◌, length, get_or, insert, refl, sym, ap, subst, ◌∙◌, arith}
 use Rattle.std.specs.Prelude.{Option, None, Some, ◌==◌, ◌&&◌, nat_lt, nat_le, slice_get, if◌then◌else◌}
 use Rattle.std.specs.Option.{option_map_or}
 use Rattle.std.specs.List.{list_any, remove, prefix_len, AllByRecursion}
@@ -101,6 +101,14 @@ ascend_with v (p ∷ pins) h =
     by_test (nat_lt p v)
     (λ b. let le : p ≤ v = grind (arith, nat_tests) in rw b (all_with p v pins le h.0, ascend_with v pins h.1))
     (λ b. let le : v ≤ p = grind (arith, nat_tests) in rw b ((le, all_more p v pins le h.0), h))
+
+-- the version is pinned then
+pub pinned_with : (v : ℕ) (pins : List ℕ) → is_pinned (with_pin pins v) v ≡ true
+pinned_with v [] = let same : (v == v) ≡ true = grind (arith, nat_tests) in rw same refl
+pinned_with v (p ∷ pins) =
+    by_test (nat_lt p v)
+    (λ b. rw (b, below_not p v b) (pinned_with v pins))
+    (λ b. let same : (v == v) ≡ true = grind (arith, nat_tests) in rw (b, same) refl)
 
 all_without : (p v : ℕ) (pins : List ℕ) → AllByRecursion (λ later. p ≤ later) pins → AllByRecursion (λ later. p ≤ later) (without_pin pins v)
 all_without p v [] h = tt

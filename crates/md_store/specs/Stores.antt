@@ -1,6 +1,6 @@
 -- What a store keeps, and what its calls make of it.
 use Rattle.std.specs.Prelude.{◌≡◌, ◌==◌, ℕ, ◌+◌, length, List, [], ◌∷◌, ◌++◌, Bool, true, ◌||◌, Option, None, Some, nat_lt, find, if◌then◌else◌}
-use Rattle.std.specs.List.{list_any, AllByRecursion}
+use Rattle.std.specs.List.{AllByRecursion}
 use Rattle.md_value.specs.Values.{PathBytes}
 use Rattle.md_world.specs.declared.Limits.{Limits}
 use Rattle.md_world.specs.Tickets.{Ticket, Stamp, ticket_at, without_ticket, stamp_at}

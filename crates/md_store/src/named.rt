@@ -19,7 +19,7 @@ fn named<'a>(
 ) -> Result<Vec<(&'a PathKey, u32)>, AllocError>
     requires same { length paths.now.keys ≡ length slots.now }
     requires few { length slots.now < 2 ^ 32 }
-    requires places { ArePlaces version (places_of paths.now.keys slots.now) }
+    requires places { (newest : ℕ) × ArePlaces newest (places_of paths.now.keys slots.now) }
     ensures { IfOk result (λ found. map bare_named found.items ≡ live_from 0 (places_of paths.now.keys slots.now) version) }
 {
     let mut found = Vec::new(alloc);
@@ -45,7 +45,7 @@ pub fn places_in_order(
 ) -> Result<Vec<u32>, AllocError>
     requires same { length paths.now.keys ≡ length slots.now }
     requires few { length slots.now < 2 ^ 32 }
-    requires places { ArePlaces version (places_of paths.now.keys slots.now) }
+    requires places { (newest : ℕ) × ArePlaces newest (places_of paths.now.keys slots.now) }
     ensures { IfOk result (λ found. map Some found.items ≡ map (place_in (places_of paths.now.keys slots.now)) (paths_of (table_at (places_of paths.now.keys slots.now) version))) }
 {
     let mut found = named(alloc, paths, slots, version)?;

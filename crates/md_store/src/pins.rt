@@ -29,6 +29,7 @@ pub fn pin(pins: &mut Vec<u32>, version: u32) -> Result<(), AllocError>
     ensures ok { OnOk result (pins.new.items ≡ with_pin pins.old.items version) }
     ensures err { OnErr result (pins.new.items ≡ pins.old.items) }
     ensures ascend { Ascend pins.new.items }
+    ensures pinned { OnOk result (is_pinned pins.new.items version ≡ true) }
 {
     let place = before(pins, version);
     pins.insert(place, version)?;

@@ -246,6 +246,7 @@ impl Store {
     pub fn pin(&mut self, version: u32) -> Result<(), AllocError>
         requires { is_shown self.old version ≡ true }
         ensures ok { OnOk result (self.new ≡ record self.old { pins = with_pin self.old.pins version }) }
+        ensures pinned { OnOk result (is_pinned self.new.pins version ≡ true) }
         ensures err { OnErr result (self.new ≡ self.old) }
     {
         pin(&mut self.pins, version)
@@ -272,11 +273,20 @@ impl Store {
         given
     }
 
-    /// The places that have a row in the newest version, in path order.
+    /// The places that have a row in the newest version, in path order. Fails only where memory runs out.
     pub fn places(&self) -> Result<Vec<u32>, AllocError>
         ensures { IfOk result (λ found. map Some found.items ≡ map (place_in self.now.places) (paths_of (table_at self.now.places self.now.version))) }
     {
         let _most = self.limits.paths;
         places_in_order(self.alloc, &self.paths, &self.slots, self.version)
+    }
+
+    /// The places that have a row in the newest version or a pinned one, in path order. Fails only where memory runs out.
+    pub fn places_at(&self, version: u32) -> Result<Vec<u32>, AllocError>
+        requires { is_shown self.now version ≡ true }
+        ensures { IfOk result (λ found. map Some found.items ≡ map (place_in self.now.places) (paths_of (table_at self.now.places version))) }
+    {
+        let _most = self.limits.paths;
+        places_in_order(self.alloc, &self.paths, &self.slots, version)
     }
 }

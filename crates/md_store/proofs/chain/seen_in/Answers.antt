@@ -1,8 +1,7 @@
-use Rattle.std.proofs.Common.{◌≡◌, Bool, sym, ap, ◌∙◌}
-use Rattle.std.specs.Prelude.{Some, None, find, if◌then◌else◌}
+use Rattle.std.proofs.Common.{Bool, sym, ap, ◌∙◌}
+use Rattle.std.specs.Prelude.{Some, None, if◌then◌else◌}
 use Rattle.std.specs.Option.{option_map}
 use Rattle.md_store.specs.declared.chain.KeptRow.{KeptRow}
-use Rattle.md_store.specs.Chains.{sees}
 use Rattle.md_store.proofs.Searching.{seen_none, seen_at}
 use Rattle.md_store.proofs.chain.seen_in.Goals as goal
 

@@ -22,7 +22,7 @@ seen_in-requires c =
     let slot = c.index-slots-place.result in
     let i = c.loop-place.place in
     let there : slice_get slots i ≡ Some slot = slice_get-get_or slots i slot (omega arith) ∙ ap Some (sym c.index-slots-place.is) in
-    let ordered = slot_ordered c.args.version keys slots i slot c.requires.same c.requires.places there in
+    let ordered = slot_ordered c.requires.places.0 keys slots i slot c.requires.same c.requires.places.1 there in
     subst IsOrdered (sym (c.deref.ensures.value ∙ ap (λ (s : Slot). s.chain.items) (sym c.index-slots-place.is))) ordered
 
 pub loop-place-preserved : goal.loop-place-preserved

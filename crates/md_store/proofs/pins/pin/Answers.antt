@@ -1,5 +1,5 @@
 use Rattle.std.proofs.Common.{◌≡◌, ℕ, insert, ap, ◌∙◌}
-use Rattle.md_store.proofs.Pinning.{below, inserted, ascend_with}
+use Rattle.md_store.proofs.Pinning.{below, inserted, ascend_with, pinned_with}
 use Rattle.md_store.proofs.pins.pin.Goals as goal
 
 pub returns-clause-ok : goal.returns-clause-ok
@@ -11,3 +11,6 @@ returns-clause-ok c =
 
 pub returns-clause-ascend : goal.returns-clause-ascend
 returns-clause-ascend c = rw (returns-clause-ok c) (ascend_with c.args.version c.args.pins.now.items c.requires)
+
+pub returns-clause-pinned : goal.returns-clause-pinned
+returns-clause-pinned c = rw (returns-clause-ok c) (pinned_with c.args.version c.args.pins.now.items)

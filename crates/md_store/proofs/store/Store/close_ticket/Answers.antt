@@ -1,4 +1,4 @@
-use Rattle.std.proofs.Common.{◌≡◌, false, sym, ap, ◌∙◌, arith}
+use Rattle.std.proofs.Common.{◌≡◌, sym, ap, ◌∙◌, arith}
 use Rattle.md_world.specs.Tickets.{without_ticket}
 use Rattle.md_store.specs.contracts.store.Store.{the_view}
 use Rattle.md_store.specs.Open.{tickets_of}
