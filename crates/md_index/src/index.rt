@@ -1,6 +1,5 @@
 // The index: for each attribute and value the places that have it.
-ghost use Rattle.std.specs.Prelude.{◌≡◌, ℕ, List, Option, None, ◌&&◌, true, false, IfOk, OnOk, is_some};
-ghost use Rattle.std.specs.Ordering.{nat_cmp, is_eq};
+ghost use Rattle.std.specs.Prelude.{◌≡◌, ◌==◌, ◌<◌, ℕ, List, [], length, Option, None, ◌&&◌, true, false, IfOk, OnOk, is_some};
 ghost use Rattle.std.specs.Option.{option_map};
 ghost use Rattle.md_world.specs.declared.Row.{Row};
 ghost use Rattle.md_value.specs.Attrs.{text_content};
@@ -9,13 +8,13 @@ ghost use Rattle.md_index.specs.Order.{OneValue};
 ghost use Rattle.md_index.specs.States.{is_on, written, state};
 ghost use Rattle.md_index.specs.Facts.{has_fact};
 ghost use Rattle.std.specs.List.Sorted.{IsStrictlyIncreasing};
-ghost use Rattle.md_index.specs.Indexed.{Holds, IsReady, CanApply, HasRoom, lists, row_between, row_set};
+ghost use Rattle.md_index.specs.Indexed.{Holds, IsReady, CanApply, HasRoom, lists, row_between, row_set, Adds};
 
 use crate::between::Probe;
-use crate::facts::{Fact, drop_shared, facts_of};
+use crate::facts::{Fact, facts_left};
 use crate::named::Named;
 use crate::names::{self, Names};
-use crate::range::places_between;
+use crate::range::{Found, all_between, places_between};
 use md_world::Row;
 use std::alloc::{AllocError, Global};
 use std::collections::BTreeMap;
@@ -32,9 +31,9 @@ pub struct Index {
 #[derive(Drop)]
 pub struct IndexReady {
     place: u32,
-    // What the place has no more.
+    // What the place loses.
     drops: Vec<Fact>,
-    // What the place has then.
+    // What the place gains.
     adds: Vec<Fact>,
 }
 
@@ -64,7 +63,7 @@ fn promise_all(
 
 // Sets whether a place is counted at each of these that has room for it.
 fn write_all(names: &mut Names, facts: &[Fact], place: u32, flag: bool)
-    ensures { (n : List ℕ) (v : OneValue) (p : ℕ) → state names.new n v p ≡ written (has_fact facts.now n v && is_eq (nat_cmp place p)) flag (state names.old n v p) }
+    ensures { (n : List ℕ) (v : OneValue) (p : ℕ) → state names.new n v p ≡ written (has_fact facts.now n v && (place == p)) flag (state names.old n v p) }
 {
     for fact in facts {
         names::write(names, fact, place, flag);
@@ -104,9 +103,8 @@ impl Index {
         ensures change { IfOk result (λ ready. IsReady ready (option_map (λ row. row.now) old.entry) (option_map (λ row. row.now) new.entry)) }
         ensures room { IfOk result (λ ready. CanApply self.new ready) }
     {
-        let adds = facts_of(self.alloc, new)?;
-        let mut drops = facts_of(self.alloc, old)?;
-        drop_shared(&mut drops, &adds);
+        let adds = facts_left(self.alloc, new, old)?;
+        let drops = facts_left(self.alloc, old, new)?;
         if let Err(error) = promise_all(self.alloc, &mut self.names, &adds, place) {
             sweep_all(&mut self.names, &adds, place);
             return Err(error);
@@ -125,7 +123,15 @@ impl Index {
         sweep_all(&mut self.names, &drops, place);
     }
 
-    /// The places whose newest row has some value between the edges, in order, each once. The probe does not name the text content.
+    /// Gives up what was made ready for a change that is not to be made. Takes no memory.
+    pub fn give_up(&mut self, ready: IndexReady)
+        ensures { (rows : ℕ → Option Row) → Holds self.old rows → Holds self.new rows }
+    {
+        sweep_all(&mut self.names, &ready.adds, ready.place);
+    }
+
+    /// The places whose newest row has some value between the edges, in order, each once. The probe does not name the
+    /// text content.
     pub fn range(&self, probe: &Probe) -> Result<Vec<u32>, AllocError>
         requires { is_same probe.now.name text_content ≡ false }
         ensures places { IfOk result (λ places. (rows : ℕ → Option Row) → Holds self.now rows → (p : ℕ) → lists places.items p ≡ row_between probe.now (rows p)) }
@@ -133,8 +139,26 @@ impl Index {
     {
         let name = Named::of(self.alloc, &probe.name)?;
         match self.names.get(&name) {
-            Some(values) => places_between(self.alloc, values, probe),
+            Some(values) => all_between(self.alloc, values, probe),
             None => Ok(Vec::new(self.alloc)),
+        }
+    }
+
+    /// The same places, or, where there are more than `most`, more than `most` of them. Finding out that there are more
+    /// costs no more than finding so many.
+    pub fn range_within(&self, probe: &Probe, most: usize) -> Result<Found, AllocError>
+        requires { is_same probe.now.name text_content ≡ false }
+        ensures places { IfOk result (λ found. (rows : ℕ → Option Row) → Holds self.now rows → Adds [] found.places.items found.whole (λ p. row_between probe.now (rows p))) }
+        ensures over { IfOk result (λ found. found.whole ≡ false → most < length found.places.items) }
+        ensures upward { IfOk result (λ found. IsStrictlyIncreasing found.places.items) }
+    {
+        let name = Named::of(self.alloc, &probe.name)?;
+        match self.names.get(&name) {
+            Some(values) => places_between(self.alloc, values, probe, most),
+            None => Ok(Found {
+                places: Vec::new(self.alloc),
+                whole: true,
+            }),
         }
     }
 }
