@@ -20,28 +20,34 @@ Names = BTreeMap (List ℕ) (BTreeMap Value Places)
 abbrev pub HoldRows : Names → (ℕ → Option Row) → Type 0
 HoldRows names rows = (name : List ℕ) (value : Value) (place : ℕ) → is_on (state names name value place) ≡ row_has (rows place) name value
 
+-- the places are exactly those that have a row
+abbrev pub HoldPlaces : Places → (ℕ → Option Row) → Type 0
+HoldPlaces places rows = (place : ℕ) → is_on (place_state places place) ≡ is_some (rows place)
+
 -- the index has exactly these rows by place
 abbrev pub Holds : Index → (ℕ → Option Row) → Type 0
-Holds index rows = HoldRows index.names rows
+Holds index rows = HoldRows index.names rows × HoldPlaces index.rows rows
 
 -- there is room for the place at each of these
 abbrev pub HasRoom : Names → List Fact → ℕ → Type 0
 HasRoom names facts place = (name : List ℕ) (value : Value) → has_fact facts name value ≡ true → is_some (state names name value place) ≡ true
 
--- a change of the row of a place: the facts that it loses, and those that it gains
+-- a change of the row of a place: the facts that it loses, those that it gains, and whether there is a row then
 pub record Prepared : Type 0 where
   pub place : ℕ
   pub drops : List Fact
   pub adds : List Fact
+  pub is_row : Bool
 
 -- what takes a place from the old row to the new one
 pub record IsReady (ready : Prepared) (old new : Option Row) : Type 0 where
   pub adds : (name : List ℕ) (value : Value) → has_fact ready.adds name value ≡ row_has new name value && not (row_has old name value)
   pub drops : (name : List ℕ) (value : Value) → has_fact ready.drops name value ≡ row_has old name value && not (row_has new name value)
+  pub is_row : ready.is_row ≡ is_some new
 
 -- the index is as it was made ready for the change
 abbrev pub CanApply : Index → Prepared → Type 0
-CanApply index ready = HasRoom index.names ready.adds ready.place
+CanApply index ready = HasRoom index.names ready.adds ready.place × (ready.is_row ≡ true → is_some (place_state index.rows ready.place) ≡ true)
 
 -- the rows with this one at the place
 abbrev pub row_set : (ℕ → Option Row) → ℕ → Option Row → ℕ → Option Row

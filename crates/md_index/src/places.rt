@@ -5,6 +5,7 @@ ghost use Rattle.md_index.specs.Indexed.{lists, Adds};
 
 use crate::blocks::{self, Blocks};
 use std::alloc::{AllocError, Global};
+use std::collections::BTreeMap;
 
 /// Some places.
 #[derive(Drop)]
@@ -12,6 +13,13 @@ pub enum Places {
     /// One place alone, and whether it is counted.
     One(u32, bool),
     Many(Blocks),
+}
+
+/// No place. Takes no memory.
+pub fn none(alloc: Global) -> Places
+    ensures { (p : ℕ) → is_on (place_state result p) ≡ false }
+{
+    Places::Many(BTreeMap::new(alloc))
 }
 
 /// Makes room for a place.

@@ -16,7 +16,7 @@ returns-in-Some-clause-places c =
     let values = c.in-Some.values.now in
     let found : get (slice_cmp nat_cmp) names probe.name ≡ Some values = search rules in
     IfOk-weaker c.places_between.result _ _
-    (λ found-places told rows holds. adds_same [] _ _ (counted_between probe values.entries) (λ p. row_between probe (rows p)) (λ p. in_range names probe c.requires rows holds p values found c.places_between.ensures.ordered) told)
+    (λ found-places told rows holds. adds_same [] _ _ (counted_between probe values.entries) (λ p. row_between probe (rows p)) (λ p. in_range names probe c.requires rows holds.0 p values found c.places_between.ensures.ordered) told)
     c.places_between.ensures.adds
 
 pub returns-clause-places : goal.returns-clause-places
@@ -25,4 +25,4 @@ returns-clause-places c rows holds =
     let probe = c.args.probe.now in
     let absent : get (slice_cmp nat_cmp) names probe.name ≡ None = search rules in
     subst (λ xs. Adds [] xs true (λ p. row_between probe (rows p))) (sym c.new.ensures.items)
-    (adds_none [] true (λ p. row_between probe (rows p)) (λ p. sym (out_of_range names probe c.requires rows holds p absent)))
+    (adds_none [] true (λ p. row_between probe (rows p)) (λ p. sym (out_of_range names probe c.requires rows holds.0 p absent)))
