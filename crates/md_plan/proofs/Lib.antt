@@ -1,0 +1,2 @@
+pub mod Edges_met
+pub mod Trees
