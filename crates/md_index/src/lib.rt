@@ -15,4 +15,4 @@ mod values;
 
 pub use between::{Edge, Mark, Probe};
 pub use index::{Index, IndexReady};
-pub use range::Found;
+pub use range::{Found, in_order};

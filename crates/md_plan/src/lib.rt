@@ -6,7 +6,9 @@
 #![tactic(auto)]
 
 mod compare;
+mod find;
 mod local;
+mod places;
 mod plan;
 
 pub use plan::{Plan, plan_of};
