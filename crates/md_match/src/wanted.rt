@@ -87,8 +87,8 @@ fn push_starred(text: &mut String, piece: &Text) -> Result<(), AllocError>
     Ok(())
 }
 
-// The pieces with a `*` between each two.
-fn starred(alloc: Global, pieces: &[Text]) -> Result<String, AllocError>
+/// The pieces with a `*` between each two.
+pub fn starred(alloc: Global, pieces: &[Text]) -> Result<String, AllocError>
     ensures { IfOk result (λ text. chars (string_bytes text) ≡ starred pieces.now) }
 {
     let mut text = String::new(alloc);
