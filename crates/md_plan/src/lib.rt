@@ -7,6 +7,7 @@
 
 mod compare;
 mod find;
+pub mod laws;
 mod local;
 mod places;
 mod plan;
