@@ -1,5 +1,5 @@
 // The kept rows of one path, oldest first, each with the versions that see it.
-ghost use Rattle.std.specs.Prelude.{◌≡◌, ◌+◌, ◌<◌, ◌≤◌, ◌||◌, length, filter, map, vec_len, vec_capacity, IsSome, nat_le};
+ghost use Rattle.std.specs.Prelude.{◌≡◌, ◌+◌, ◌<◌, ◌≤◌, ◌||◌, length, filter, map, vec_len, vec_capacity, IsSome, OnOk, nat_le};
 ghost use Rattle.std.specs.Option.{option_copied};
 ghost use Rattle.std.specs.List.{list_any, prefix_len};
 ghost use Rattle.md_store.specs.Chains.{sees, seen_in, is_seen, seen_of, end_at, with_row_at, IsOrdered};
@@ -7,6 +7,10 @@ ghost use Rattle.md_store.specs.Pins.{Ascend};
 
 use crate::pins::first_from;
 use md_world::Row;
+use std::alloc::AllocError;
+
+// So many rows of a path are few.
+const FEW: usize = 4;
 
 /// A row and the versions that see it: from the one that made it on, up to the one that ended it.
 #[derive(Debug, Drop)]
@@ -84,6 +88,19 @@ pub fn append(chain: &mut Vec<KeptRow>, version: u32, row: Option<Row>)
             unreachable!()
         };
     }
+}
+
+/// Takes the memory of one more row: of that alone while they are few, since most paths have one or two.
+pub fn reserve_row(chain: &mut Vec<KeptRow>) -> Result<(), AllocError>
+    ensures items { chain.new.items ≡ chain.old.items }
+    ensures len { vec_len chain.new ≡ vec_len chain.old }
+    ensures capacity { vec_capacity chain.old ≤ vec_capacity chain.new }
+    ensures ok { OnOk result (vec_len chain.new + 1 ≤ vec_capacity chain.new) }
+{
+    if chain.len() < FEW {
+        return chain.reserve_exact(1);
+    }
+    chain.reserve(1)
 }
 
 // Whether a pinned version sees the row. If any does, the first pin from the row's own version on does.

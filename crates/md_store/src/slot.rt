@@ -6,7 +6,7 @@ ghost use Rattle.md_store.specs.Places.{places_of, place_in, place_for, with_com
 ghost use Rattle.md_store.specs.declared.slot.Slot.{Slot as OneSlot};
 ghost use Rattle.indexmap.specs.IndexSet.{spare};
 
-use crate::chain::{KeptRow, append, give_up};
+use crate::chain::{KeptRow, append, give_up, reserve_row};
 use crate::key::PathKey;
 use indexmap::IndexSet;
 use md_world::Row;
@@ -90,7 +90,7 @@ fn row_room(slots: &mut Vec<Slot>, place: usize) -> Result<(), AllocError>
     ensures ok { OnOk result (HasRowRoom slots.new.items place) }
 {
     let slot = &mut slots[place];
-    slot.chain.reserve(1)
+    reserve_row(&mut slot.chain)
 }
 
 /// Room for a commit at a place, or at the next one.
