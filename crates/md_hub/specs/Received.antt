@@ -18,7 +18,7 @@ abbrev pub given : List Reply → List Reply
 given replies = filter (λ r. not (is_memory r)) replies
 
 -- Each event has a reply; without those answered `Memory`, the replies and the state are those of the machine's run.
-pub record IsTold (limits : Limits) (events : List Event) (replies : List Reply) (last : State) : Type 0 where
+pub record IsReceived (limits : Limits) (events : List Event) (replies : List Reply) (last : State) : Type 0 where
   pub each : length replies ≡ length events
   pub state : last ≡ (run limits (answered events replies)).last
-  pub told : given replies ≡ (run limits (answered events replies)).replies
+  pub received : given replies ≡ (run limits (answered events replies)).replies

@@ -2,7 +2,7 @@ use Rattle.std.proofs.Common.{rules, ◌≡◌, ◌++◌, string_bytes}
 use Rattle.std.specs.Char.{encode_utf8}
 use Rattle.std.proofs.lemmas.Str.{IsUtf8-string_bytes}
 use Rattle.md_expr_lex.proofs.Spellings.{pushed}
-use Rattle.md_expr_lex.proofs.front.push.Goals as goal
+use Rattle.md_expr_lex.proofs.prefix.push.Goals as goal
 
 pub returns : goal.returns
 returns c =

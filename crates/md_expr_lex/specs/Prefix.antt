@@ -1,15 +1,15 @@
--- The front of a text.
+-- The prefix of a text.
 use Rattle.std.specs.Prelude.{ℕ, Bool, false, ◌==◌, if◌then◌else◌, List, [], ◌∷◌, Option, Some, None}
 use Rattle.md_expr_tree.specs.declared.token.Token.{Token}
 
 -- a token, and what follows it
-abbrev pub Found : Type 0
-Found = Option (Token × List ℕ)
+abbrev pub ScannedToken : Type 0
+ScannedToken = Option (Token × List ℕ)
 
--- the characters of the class at the front, and the rest
-abbrev pub front : (ℕ → Bool) → List ℕ → List ℕ × List ℕ
-front class [] = ([], [])
-front class (c ∷ cs) = if class c then (c ∷ (front class cs).0, (front class cs).1) else ([], c ∷ cs)
+-- the characters of the class at the beginning, and the rest
+abbrev pub prefix : (ℕ → Bool) → List ℕ → List ℕ × List ℕ
+prefix class [] = ([], [])
+prefix class (c ∷ cs) = if class c then (c ∷ (prefix class cs).0, (prefix class cs).1) else ([], c ∷ cs)
 
 -- the text begins with a character of the class
 abbrev pub begins : (ℕ → Bool) → List ℕ → Bool

@@ -1,11 +1,11 @@
-// The front of a text, and text of characters.
+// The prefix of a text, and text of characters.
 ghost use Rattle.std.specs.Prelude.{◌≡◌, ◌∷◌, ◌++◌, [], length, IfOk, OnOk, MatchOption, chars, encode_utf8_all, string_bytes};
 ghost use Rattle.std.specs.Char.{is_ascii, is_ascii_digit};
 ghost use Rattle.std.specs.List.{list_all, take_while};
 ghost use Rattle.std.specs.Option.{option_map};
 ghost use Rattle.md_value.specs.Name.{is_name_part};
 ghost use Rattle.md_expr_tree.specs.Tokens.{may_not_follow_number, may_not_follow_time};
-ghost use Rattle.md_expr_lex.specs.Front.{front, begins, after};
+ghost use Rattle.md_expr_lex.specs.Prefix.{prefix, begins, after};
 ghost use Rattle.md_expr_lex.specs.Kinds.{is_not_closing};
 
 use crate::class;
@@ -17,10 +17,10 @@ fn word_len(text: &[char]) -> usize
     text.iter().take_while(|c| class::is_name_part(**c)).count()
 }
 
-/// The letters, digits and `_` at the front, and the rest.
-#[tactic(auto, using(crate::proofs::Fronts::front_split))]
+/// The letters, digits and `_` at the beginning, and the rest.
+#[tactic(auto, using(crate::proofs::Prefixes::prefix_split))]
 pub(crate) fn word(text: &[char]) -> (&[char], &[char])
-    ensures { (result.0.now, result.1.now) ≡ front is_name_part text.now }
+    ensures { (result.0.now, result.1.now) ≡ prefix is_name_part text.now }
 {
     text.split_at(word_len(text))
 }
@@ -31,10 +31,10 @@ fn digits_len(text: &[char]) -> usize
     text.iter().take_while(|c| class::is_digit(**c)).count()
 }
 
-/// The digits at the front, and the rest.
-#[tactic(auto, using(crate::proofs::Fronts::front_split))]
+/// The digits at the beginning, and the rest.
+#[tactic(auto, using(crate::proofs::Prefixes::prefix_split))]
 pub(crate) fn digits(text: &[char]) -> (&[char], &[char])
-    ensures { (result.0.now, result.1.now) ≡ front is_ascii_digit text.now }
+    ensures { (result.0.now, result.1.now) ≡ prefix is_ascii_digit text.now }
 {
     text.split_at(digits_len(text))
 }
@@ -48,9 +48,9 @@ fn inside_len(text: &[char]) -> usize
 }
 
 /// What stands before the first `)`, and the rest.
-#[tactic(auto, using(crate::proofs::Fronts::front_split))]
+#[tactic(auto, using(crate::proofs::Prefixes::prefix_split))]
 pub(crate) fn inside(text: &[char]) -> (&[char], &[char])
-    ensures { (result.0.now, result.1.now) ≡ front is_not_closing text.now }
+    ensures { (result.0.now, result.1.now) ≡ prefix is_not_closing text.now }
 {
     text.split_at(inside_len(text))
 }

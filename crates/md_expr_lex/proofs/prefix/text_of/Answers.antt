@@ -4,7 +4,7 @@ use Rattle.std.proofs.lemmas.Str.{encodes-append}
 use Rattle.std.specs.Str.{encode_utf8_all}
 use Rattle.std.specs.Char.{encode_utf8}
 use Rattle.std.specs.String.{string_bytes}
-use Rattle.md_expr_lex.proofs.front.text_of.Goals as goal
+use Rattle.md_expr_lex.proofs.prefix.text_of.Goals as goal
 
 turned : (xs : List ℕ) (i x : ℕ) (now next : List ℕ) → next ≡ now ++ encode_utf8 x → now ≡ encode_utf8_all (take i xs) → i < length xs → x ≡ get_or xs i x → next ≡ encode_utf8_all (take (i + 1) xs)
 turned xs i x now next e w h is =

@@ -31,7 +31,7 @@ abbrev pub is_end : ℕ → Bool
 is_end c = c == 10 || c == 13
 
 -- the line is whole, and says something whose forms of time are in range
-pub record IsTold (line : List ℕ) : Type 0 where
+pub record IsStated (line : List ℕ) : Type 0 where
   pub what : What
   pub says : said line ≡ Some (meaning.Says what)
   pub timely : IsTimely what
@@ -66,40 +66,40 @@ whole_of : (whole short : Bool) → (not whole && short) ≡ true → (whole ≡
 whole_of true short e = absurd (false≢true e)
 whole_of false short e = (refl, e)
 
-told_sized : (line : List ℕ) (what : What) → said line ≡ Some (meaning.Says what) → IsTimely what → is_sized line ≡ true → IsTold line
-told_sized line what says timely sized =
+stated_sized : (line : List ℕ) (what : What) → said line ≡ Some (meaning.Says what) → IsTimely what → is_sized line ≡ true → IsStated line
+stated_sized line what says timely sized =
     let parts = whole_of (list_any is_end line) (nat_lt (length line) 200) sized in
     record { what = what; says = says; timely = timely; whole = parts.0; short = ltb-true (length line) 200 parts.1 }
 
 -- each client's line of this word says so
 abbrev Says : List ℕ → (ℕ → What) → ℕ → Type 0
-Says word told client = said (asked_text word client) ≡ Some (meaning.Says (told client))
+Says word known client = said (asked_text word client) ≡ Some (meaning.Says (known client))
 
 abbrev IsSized : List ℕ → ℕ → Type 0
 IsSized word client = is_sized (asked_text word client) ≡ true
 
-pub told_gather : (client : ℕ) → client < 8 → IsTold (asked_text (codes "gather") client)
+pub stated_gather : (client : ℕ) → client < 8 → IsStated (asked_text (codes "gather") client)
 unfolding said is_utf8 chars encode says_nothing said_by first_word command_of client_of number_below asked_by after_word number_of event_of digits
-told_gather client less =
-    told_sized (asked_text (codes "gather") client) (what.Gather client 1) (below_8 (Says (codes "gather") (λ client. what.Gather client 1)) refl refl refl refl refl refl refl refl client less) tt
+stated_gather client less =
+    stated_sized (asked_text (codes "gather") client) (what.Gather client 1) (below_8 (Says (codes "gather") (λ client. what.Gather client 1)) refl refl refl refl refl refl refl refl client less) tt
     (below_8 (IsSized (codes "gather")) refl refl refl refl refl refl refl refl client less)
 
-pub told_poll : (client : ℕ) → client < 8 → IsTold (asked_text (codes "poll") client)
+pub stated_poll : (client : ℕ) → client < 8 → IsStated (asked_text (codes "poll") client)
 unfolding said is_utf8 chars encode says_nothing said_by first_word command_of client_of number_below asked_by after_word number_of event_of digits
-told_poll client less =
-    told_sized (asked_text (codes "poll") client) (what.Poll client 1) (below_8 (Says (codes "poll") (λ client. what.Poll client 1)) refl refl refl refl refl refl refl refl client less) tt
+stated_poll client less =
+    stated_sized (asked_text (codes "poll") client) (what.Poll client 1) (below_8 (Says (codes "poll") (λ client. what.Poll client 1)) refl refl refl refl refl refl refl refl client less) tt
     (below_8 (IsSized (codes "poll")) refl refl refl refl refl refl refl refl client less)
 
-pub told_disable : (client : ℕ) → client < 8 → IsTold (asked_text (codes "disable") client)
+pub stated_disable : (client : ℕ) → client < 8 → IsStated (asked_text (codes "disable") client)
 unfolding said is_utf8 chars encode says_nothing said_by first_word command_of client_of number_below asked_by after_word number_of event_of digits
-told_disable client less =
-    told_sized (asked_text (codes "disable") client) (what.Disable client 1) (below_8 (Says (codes "disable") (λ client. what.Disable client 1)) refl refl refl refl refl refl refl refl client less) tt
+stated_disable client less =
+    stated_sized (asked_text (codes "disable") client) (what.Disable client 1) (below_8 (Says (codes "disable") (λ client. what.Disable client 1)) refl refl refl refl refl refl refl refl client less) tt
     (below_8 (IsSized (codes "disable")) refl refl refl refl refl refl refl refl client less)
 
-pub told_enable : (client : ℕ) → client < 8 → IsTold (asked_text (codes "enable") client)
+pub stated_enable : (client : ℕ) → client < 8 → IsStated (asked_text (codes "enable") client)
 unfolding said is_utf8 chars encode says_nothing said_by first_word command_of client_of number_below asked_by after_word number_of event_of digits
-told_enable client less =
-    told_sized (asked_text (codes "enable") client) (what.Enable client 1) (below_8 (Says (codes "enable") (λ client. what.Enable client 1)) refl refl refl refl refl refl refl refl client less) tt
+stated_enable client less =
+    stated_sized (asked_text (codes "enable") client) (what.Enable client 1) (below_8 (Says (codes "enable") (λ client. what.Enable client 1)) refl refl refl refl refl refl refl refl client less) tt
     (below_8 (IsSized (codes "enable")) refl refl refl refl refl refl refl refl client less)
 
 abbrev batch_of : Option ℕ → Batch
@@ -111,21 +111,21 @@ options_of update = record { scope = None; first = None; progress = None; update
 abbrev says_query : ℕ → Option ℕ → Option Expr → Option Meaning
 says_query client update e = option_map (λ what. meaning.Says what) (option_and_then (query_by client 1 (options_of update)) e)
 
-told_query : (client : ℕ) → IsAsked client → (update : Option ℕ) → said (query_text client) ≡ says_query client update (result_ok (outcome (expression client)))
-    → is_zero update ≡ false → is_sized (query_text client) ≡ true → IsTold (query_text client)
+stated_query : (client : ℕ) → IsAsked client → (update : Option ℕ) → said (query_text client) ≡ says_query client update (result_ok (outcome (expression client)))
+    → is_zero update ≡ false → is_sized (query_text client) ≡ true → IsStated (query_text client)
 unfolding query_by
-told_query client asked update says some sized =
-    told_sized (query_text client) (what.Query client 1 asked.expr [] [] (batch_of update)) (says ∙ ap (λ r. says_query client update (result_ok r)) asked.read ∙ rw some refl) asked.timely sized
+stated_query client asked update says some sized =
+    stated_sized (query_text client) (what.Query client 1 asked.expr [] [] (batch_of update)) (says ∙ ap (λ r. says_query client update (result_ok r)) asked.read ∙ rw some refl) asked.timely sized
 
-pub told_queries : (client : ℕ) → client < 8 → IsTold (query_text client)
+pub stated_queries : (client : ℕ) → client < 8 → IsStated (query_text client)
 unfolding said is_utf8 chars encode says_nothing said_by first_word command_of client_of number_below asked_by after_word number_of query_of asked_of choice_of choice_by number_choice expression_of expression digits
-told_queries =
-    below_8 (λ client. IsTold (query_text client))
-    (told_query 0 asked_0 None refl refl refl)
-    (told_query 1 asked_1 None refl refl refl)
-    (told_query 2 asked_2 None refl refl refl)
-    (told_query 3 asked_3 None refl refl refl)
-    (told_query 4 asked_4 (Some 5) refl refl refl)
-    (told_query 5 asked_5 (Some 5) refl refl refl)
-    (told_query 6 asked_6 (Some 5) refl refl refl)
-    (told_query 7 asked_7 (Some 5) refl refl refl)
+stated_queries =
+    below_8 (λ client. IsStated (query_text client))
+    (stated_query 0 asked_0 None refl refl refl)
+    (stated_query 1 asked_1 None refl refl refl)
+    (stated_query 2 asked_2 None refl refl refl)
+    (stated_query 3 asked_3 None refl refl refl)
+    (stated_query 4 asked_4 (Some 5) refl refl refl)
+    (stated_query 5 asked_5 (Some 5) refl refl refl)
+    (stated_query 6 asked_6 (Some 5) refl refl refl)
+    (stated_query 7 asked_7 (Some 5) refl refl refl)

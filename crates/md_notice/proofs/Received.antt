@@ -10,7 +10,7 @@ use Rattle.md_sort.proofs.Alone.{table_again}
 use Rattle.md_machine.specs.declared.Reply.{Reply}
 use Rattle.md_machine.specs.declared.Reply.TheVariants as reply
 use Rattle.md_machine.specs.Runs.{taken_in}
-use Rattle.md_notice.specs.Following.{Followed, with_reply, version_after, follower_told, shown_of, created_on}
+use Rattle.md_notice.specs.Following.{Followed, with_reply, version_after, follower_received, shown_of, created_on}
 use Rattle.md_notice.proofs.Brought.{followed}
 
 taken_table : (rows : List Row) (r : Reply) → IsTable rows → IsTable (taken_in rows r)
@@ -37,5 +37,5 @@ module _ (order : List SortKey) where
   replies_shown table version (r ∷ replies) h =
       ap (λ f. fold with_reply f replies) (reply_shown table version r h) ∙ replies_shown (taken_in table r) (version_after version r) replies (taken_table table r h)
 
-  pub told_shown : (replies : List Reply) → follower_told order replies ≡ shown_of order replies
-  told_shown replies = replies_shown [] (created_on replies) replies tt
+  pub received_shown : (replies : List Reply) → follower_received order replies ≡ shown_of order replies
+  received_shown replies = replies_shown [] (created_on replies) replies tt
