@@ -342,13 +342,13 @@ def schema_rows():
 def tables():
     yield rows.table("schema", SCRIPT, "name, kind, how many values, who sets it", ["The wanted values are those of the table in docs/FORMATS.md."], schema_rows())
     yield rows.table("files", SCRIPT, "path, size, bytes, offset in minutes, attributes or the first fault", [
-        "The wanted values are told by Python from the rules of docs/FORMATS.md; each file was changed at 2024-03-15 10:00:00.",
+        "The wanted values are computed by Python from the rules of docs/FORMATS.md; each file was changed at 2024-03-15 10:00:00.",
     ], file_rows())
     yield rows.table("drawn_json", SCRIPT, "text, offset in minutes, attributes or the first fault", [
-        "The wanted values are those of Python's json, told by the rules of docs/FORMATS.md.",
+        "The wanted values are those of Python's json, read by the rules of docs/FORMATS.md.",
     ], json_rows())
     yield rows.table("drawn_csv", SCRIPT, "text, offset in minutes, attributes or the first fault", [
-        "The wanted values are those of Python's csv, told by the rules of docs/FORMATS.md.",
+        "The wanted values are those of Python's csv, read by the rules of docs/FORMATS.md.",
     ], csv_rows())
 
 

@@ -181,7 +181,7 @@ def script_rows():
 
 def tables():
     yield rows.table("drawn_scripts", SCRIPT, "script, its lines or why it is refused", [
-        "The wanted values are told by the grammar of docs/FORMATS.md, as this script and bench/oracles/expressions.py have it.",
+        "The wanted values follow from the grammar of docs/FORMATS.md, as this script and bench/oracles/expressions.py have it.",
         "An answer has a line for each line that says something: its number, its moment in milliseconds and what it says.",
     ], script_rows())
 

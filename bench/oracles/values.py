@@ -74,7 +74,7 @@ def folder_rows():
 
 
 def tables():
-    source = "The wanted values are told from the rules of docs/FORMATS.md."
+    source = "The wanted values follow from the rules of docs/FORMATS.md."
     yield rows.table("names", SCRIPT, "text, name or bad", ["The wanted values are those of Python's re."], name_rows())
     yield rows.table("paths", SCRIPT, "text, path and last component with / between them, or bad", [source], path_rows())
     yield rows.table("folders", SCRIPT, "path, folder, whether the path is inside the folder", [source], folder_rows())

@@ -169,7 +169,7 @@ def word_rows():
 
 def tables():
     yield rows.table("drawn_words", SCRIPT, "words with a space between them, where _ is an empty word; what they ask for, or usage", [
-        "The wanted values are told by the grammar of docs/FORMATS.md, as this script has it.",
+        "The wanted values follow from the grammar of docs/FORMATS.md, as this script has it.",
     ], word_rows())
 
 

@@ -118,7 +118,7 @@ fn attributes_of(
 ///
 /// A file of kind `Other` has no fault. For the others, `TooLarge(n)` comes exactly where n, the greater of the entry's
 /// size and the number of bytes, is over 16,777,216, then `NotUtf8(n)` exactly where the bytes are not UTF-8, with the
-/// length of the longest front that is, and then the faults of the kind over the text without a byte order mark.
+/// length of the longest prefix that is, and then the faults of the kind over the text without a byte order mark.
 pub fn import(alloc: Global, entry: &Entry, bytes: &[u8], offset: i32) -> Imported
     requires { IsMoment entry.now.changed }
     ensures { IsImported result (import entry.now bytes.now offset) }

@@ -15,7 +15,7 @@ use Rattle.md_expr_parse.specs.Survey.{deepest}
 use Rattle.md_expr_parse.specs.declared.read.ReadError.{ReadError}
 use Rattle.md_expr_parse.specs.declared.read.ReadError.TheVariants as error
 use Rattle.md_expr_parse.proofs.Complete.{expression_runs}
-use Rattle.md_expr_parse.proofs.Exact.{told, found}
+use Rattle.md_expr_parse.proofs.Exact.{known, found}
 use Rattle.md_expr_print.proofs.Again.{read_again}
 use Rattle.md_expr.specs.Answer.{Answers}
 use Rattle.md_expr.specs.Printed.{IsReadBack}
@@ -26,7 +26,7 @@ use Rattle.md_expr.proofs.Lexed.{lexed, lex_sound}
 reads : {text : List ℕ} {e : Expr} (r : Reads text e) → reading text ≡ Some (e, groups_of r)
 unfolding reading built
 reads {text} {e} r =
-    let t = told r.tokens e r.reads in
+    let t = known r.tokens e r.reads in
     let items : option_and_then (group 0) (lex (length text) text) ≡ Some t.is = ap (option_and_then (group 0)) (lexed r.lexes (length text) (omega arith)) ∙ t.items in
     let runs : run false [] [] [] t.is ≡ Some e = sym (ap (option_and_then (run false [] [] [])) t.items) ∙ expression_runs r.reads in
     ap (option_and_then built) items ∙ rw (runs, t.deep) refl

@@ -18,11 +18,11 @@ use Rattle.md_expr_tree.specs.Times.{IsSign, none as no_sign, plus, minus, IsCou
 use Rattle.md_expr_tree.specs.Tokens.{may_not_follow_time}
 use Rattle.md_expr_lex.specs.declared.times.Keyword.{Keyword}
 use Rattle.md_expr_lex.specs.declared.times.Keyword.TheVariants as keyword
-use Rattle.md_expr_lex.specs.Front.{front, after}
+use Rattle.md_expr_lex.specs.Prefix.{prefix, after}
 use Rattle.md_expr_lex.specs.Kinds.{is_not_closing}
 use Rattle.md_expr_lex.specs.Numbers.{whole_of}
 use Rattle.md_expr_lex.specs.Times.{sign_of, closing, counted, after_sign, count_at, keyword_of, form_of, with_count, iso_of, iso_from, iso_at, time_by, timed, worded, time_at}
-use Rattle.md_expr_lex.proofs.Fronts.{Fronted, front_sound, front_found, before, not_begun, weaken, after_sound}
+use Rattle.md_expr_lex.proofs.Prefixes.{Prefixed, prefix_sound, prefix_found, before, not_begun, weaken, after_sound}
 use Rattle.md_expr_lex.proofs.IsoParts.{iso_ascii, iso_inside}
 use Rattle.md_expr_lex.proofs.Options.{chosen, passed, bound, mapped, same, both}
 use Rattle.md_expr_lex.proofs.Tells.{differs, fails}
@@ -52,7 +52,7 @@ count_found (count {sign} {ds} {negative} is are within) rest h =
     let behind : (sign ++ (ds ++ 41 ∷ [])) ++ rest ≡ sign ++ (ds ++ 41 ∷ rest) = append_assoc sign (ds ++ 41 ∷ []) rest ∙ ap (λ l. sign ++ l) (append_assoc ds (41 ∷ []) rest) in
     ap (λ l. after_sign (sign_of l)) behind
     ∙ ap after_sign (sign_found is ds (41 ∷ rest) are)
-    ∙ ap (counted negative) (front_found is_ascii_digit ds (41 ∷ rest) are.digits refl)
+    ∙ ap (counted negative) (prefix_found is_ascii_digit ds (41 ∷ rest) are.digits refl)
     ∙ ap (option_and_then (λ n. option_map (λ rest. (n, rest)) (closing (41 ∷ rest)))) (whole_found negative ds are within)
 
 no_word : (c : ℕ) → may_not_follow_time c ≡ false → is_name_part c ≡ false
@@ -65,25 +65,25 @@ no_word_behind (count is are within) rest h = refl
 timed_found : (f : Form) (rest : List ℕ) → BeginsWithNo may_not_follow_time rest → timed (f, rest) ≡ Some (token.Value (literal.Time f), rest)
 timed_found f rest h = rw (not_begun may_not_follow_time rest h) refl
 
-pub counted_found : (w : List ℕ) (k : Keyword) (make : ℤ → Form) → list_all is_name_part w ≡ true → keyword_of w ≡ k → ((rest : List ℕ) → time_by k rest ≡ with_count k rest) → ((n : ℤ) → form_of k n ≡ Some (make n)) → {spelling : List ℕ} {n : ℤ} → IsCount spelling n → (rest : List ℕ) → BeginsWithNo may_not_follow_time rest → worded (front is_name_part (w ++ (spelling ++ rest))) ≡ Some (token.Value (literal.Time (make n)), rest)
+pub counted_found : (w : List ℕ) (k : Keyword) (make : ℤ → Form) → list_all is_name_part w ≡ true → keyword_of w ≡ k → ((rest : List ℕ) → time_by k rest ≡ with_count k rest) → ((n : ℤ) → form_of k n ≡ Some (make n)) → {spelling : List ℕ} {n : ℤ} → IsCount spelling n → (rest : List ℕ) → BeginsWithNo may_not_follow_time rest → worded (prefix is_name_part (w ++ (spelling ++ rest))) ≡ Some (token.Value (literal.Time (make n)), rest)
 counted_found w k make all is by makes {spelling} {n} c rest h =
-    ap worded (front_found is_name_part w (spelling ++ rest) all (no_word_behind c rest h))
+    ap worded (prefix_found is_name_part w (spelling ++ rest) all (no_word_behind c rest h))
     ∙ ap (λ k. option_and_then timed (time_by k (spelling ++ rest))) is
     ∙ ap (option_and_then timed) (by (spelling ++ rest) ∙ ap (option_and_then (λ x. option_map (λ f. (f, x.1)) (form_of k x.0))) (count_found c rest h) ∙ ap (option_map (λ f. (f, rest))) (makes n))
     ∙ timed_found (make n) rest h
 
-pub iso_found : (text rest : List ℕ) → is_iso text ≡ true → BeginsWithNo may_not_follow_time rest → worded (front is_name_part (codes "iso" ++ 40 ∷ ((text ++ 41 ∷ []) ++ rest))) ≡ Some (token.Value (literal.Time (form.Iso text)), rest)
+pub iso_found : (text rest : List ℕ) → is_iso text ≡ true → BeginsWithNo may_not_follow_time rest → worded (prefix is_name_part (codes "iso" ++ 40 ∷ ((text ++ 41 ∷ []) ++ rest))) ≡ Some (token.Value (literal.Time (form.Iso text)), rest)
 iso_found text rest is h =
     let found : iso_of text ≡ Some text = rw (iso_ascii text is, is) refl in
-    ap (λ l. worded (front is_name_part (codes "iso" ++ 40 ∷ l))) (append_assoc text (41 ∷ []) rest)
-    ∙ ap worded (front_found is_name_part (codes "iso") (40 ∷ (text ++ 41 ∷ rest)) refl refl)
-    ∙ ap (λ x. option_and_then timed (iso_from x)) (front_found is_not_closing text (41 ∷ rest) (iso_inside text is) refl)
+    ap (λ l. worded (prefix is_name_part (codes "iso" ++ 40 ∷ l))) (append_assoc text (41 ∷ []) rest)
+    ∙ ap worded (prefix_found is_name_part (codes "iso") (40 ∷ (text ++ 41 ∷ rest)) refl refl)
+    ∙ ap (λ x. option_and_then timed (iso_from x)) (prefix_found is_not_closing text (41 ∷ rest) (iso_inside text is) refl)
     ∙ ap (λ o. option_and_then timed (option_and_then (λ iso. option_map (λ rest. (form.Iso iso, rest)) (closing (41 ∷ rest))) o)) found
     ∙ timed_found (form.Iso text) rest h
 
-pub yesterday_found : (rest : List ℕ) → BeginsWithNo may_not_follow_time rest → worded (front is_name_part (codes "yesterday" ++ rest)) ≡ Some (token.Value (literal.Time (form.Day (negsuc 0))), rest)
+pub yesterday_found : (rest : List ℕ) → BeginsWithNo may_not_follow_time rest → worded (prefix is_name_part (codes "yesterday" ++ rest)) ≡ Some (token.Value (literal.Time (form.Day (negsuc 0))), rest)
 yesterday_found rest h =
-    ap worded (front_found is_name_part (codes "yesterday") rest refl (weaken may_not_follow_time is_name_part rest no_word h)) ∙ timed_found (form.Day (negsuc 0)) rest h
+    ap worded (prefix_found is_name_part (codes "yesterday") rest refl (weaken may_not_follow_time is_name_part rest no_word h)) ∙ timed_found (form.Day (negsuc 0)) rest h
 
 -- ---- stand
 
@@ -112,7 +112,7 @@ record IsCounted (text : List ℕ) (x : ℤ × List ℕ) : Type 0 where
   whole : text ≡ spelling ++ x.1
   is : IsCount spelling x.0
 
-counted_sound : (text sign : List ℕ) (negative : Bool) (behind : List ℕ) (f : List ℕ × List ℕ) (x : ℤ × List ℕ) → text ≡ sign ++ behind → IsSign sign negative → Fronted is_ascii_digit behind f → counted negative f ≡ Some x → IsCounted (40 ∷ text) x
+counted_sound : (text sign : List ℕ) (negative : Bool) (behind : List ℕ) (f : List ℕ × List ℕ) (x : ℤ × List ℕ) → text ≡ sign ++ behind → IsSign sign negative → Prefixed is_ascii_digit behind f → counted negative f ≡ Some x → IsCounted (40 ∷ text) x
 counted_sound text sign negative behind f x w is there e =
     let y = bound (λ n. option_map (λ rest. (n, rest)) (closing f.1)) (whole_of negative f.0) x e in
     let m = mapped (λ (rest : List ℕ). (y.0, rest)) (closing f.1) x y.2 in
@@ -136,7 +136,7 @@ count_sound (c ∷ cs) x e = go (c == 40) refl e
     go : (r : Bool) → (c == 40) ≡ r → cond r (after_sign (sign_of cs)) (Some (pos 0, c ∷ cs)) ≡ Some x → IsCounted (c ∷ cs) x
     go true h e =
         let s = sign_sound cs in
-        subst (λ n. IsCounted (n ∷ cs) x) (sym (eqb-true c 40 h)) (counted_sound cs s.sign (sign_of cs).0 (sign_of cs).1 (front is_ascii_digit (sign_of cs).1) x s.whole s.is (front_sound is_ascii_digit (sign_of cs).1) e)
+        subst (λ n. IsCounted (n ∷ cs) x) (sym (eqb-true c 40 h)) (counted_sound cs s.sign (sign_of cs).0 (sign_of cs).1 (prefix is_ascii_digit (sign_of cs).1) x s.whole s.is (prefix_sound is_ascii_digit (sign_of cs).1) e)
     go false h e =
         let made : IsCounted (c ∷ cs) (pos 0, c ∷ cs) = record { spelling = []; whole = refl; is = no_count } in
         subst (IsCounted (c ∷ cs)) (same (pos 0, c ∷ cs) x e) made
@@ -182,8 +182,8 @@ iso_sound : (text rest : List ℕ) (x : Form × List ℕ) → text ≡ codes "is
 iso_sound text [] x t e = cc
 iso_sound text (c ∷ cs) x t e =
     let h = chosen (c == 40) _ x e in
-    let f = front is_not_closing cs in
-    let there = front_sound is_not_closing cs in
+    let f = prefix is_not_closing cs in
+    let there = prefix_sound is_not_closing cs in
     let y = bound (λ iso. option_map (λ rest. (form.Iso iso, rest)) (closing f.1)) (iso_of f.0) x h.1 in
     let m = mapped (λ (rest : List ℕ). (form.Iso y.0, rest)) (closing f.1) x y.2 in
     let close = closing_sound f.1 m.0 m.1 in
@@ -222,11 +222,11 @@ pub record TimeStands (text : List ℕ) (x : Token × List ℕ) : Type 0 where
 
 pub time_sound : (text : List ℕ) (x : Token × List ℕ) → time_at text ≡ Some x → TimeStands text x
 time_sound text x e =
-    let a = bound (λ rest. worded (front is_name_part rest)) (after (codes "time.") text) x e in
+    let a = bound (λ rest. worded (prefix is_name_part rest)) (after (codes "time.") text) x e in
     let start = after_sound (codes "time.") text a.0 a.1 in
-    let w = front_sound is_name_part a.0 in
-    let y = bound timed (time_by (keyword_of (front is_name_part a.0).0) (front is_name_part a.0).1) x a.2 in
-    let c = time_by_sound (keyword_of (front is_name_part a.0).0) (front is_name_part a.0).0 a.0 (front is_name_part a.0).1 y.0 (keyword_names (front is_name_part a.0).0) w.whole y.1 in
+    let w = prefix_sound is_name_part a.0 in
+    let y = bound timed (time_by (keyword_of (prefix is_name_part a.0).0) (prefix is_name_part a.0).1) x a.2 in
+    let c = time_by_sound (keyword_of (prefix is_name_part a.0).0) (prefix is_name_part a.0).0 a.0 (prefix is_name_part a.0).1 y.0 (keyword_names (prefix is_name_part a.0).0) w.whole y.1 in
     let o = passed _ _ x y.2 in
     let p = same (token.Value (literal.Time y.0.0), y.0.1) x o.1 in
     let after : y.0.1 ≡ x.1 = ap (λ z. z.1) p in

@@ -1,4 +1,4 @@
--- A token that stands at the front is found there.
+-- A token that stands at the beginning is found there.
 use Rattle.std.proofs.Common.{◌≡◌, ℕ, true, false, ◌==◌, cond, List, [], ◌∷◌, ◌++◌, Some, None, codes, refl, ap, ◌∙◌, arith, append_assoc}
 use Rattle.std.specs.Char.{is_ascii_digit}
 use Rattle.std.specs.List.{list_all}
@@ -16,7 +16,7 @@ use Rattle.md_expr_lex.specs.Numbers.{number_at}
 use Rattle.md_expr_lex.specs.Signs.{either}
 use Rattle.md_expr_lex.proofs.Clocks.{counted_found, iso_found, yesterday_found}
 use Rattle.md_expr_lex.proofs.Decimals.{number_found}
-use Rattle.md_expr_lex.proofs.Fronts.{front_found}
+use Rattle.md_expr_lex.proofs.Prefixes.{prefix_found}
 use Rattle.md_expr_lex.proofs.Options.{both}
 use Rattle.md_expr_lex.proofs.Quoted.{body_found, modifiers_found}
 use Rattle.md_expr_lex.proofs.Tells.{letter_kind, quote_kind, digit_kind}
@@ -29,7 +29,7 @@ name_found [] rest e h = cc
 name_found (c ∷ cs) rest e h =
     let p = both (is_name_start c) (list_all is_name_part cs) e in
     let all : list_all is_name_part (c ∷ cs) ≡ true = rw (start_is_part c p.0, p.1) refl in
-    ap (λ k. token_by k c (cs ++ rest)) (letter_kind c p.0) ∙ ap named (front_found is_name_part (c ∷ cs) rest all h) ∙ ap (λ b. cond b (Some (token.Name (c ∷ cs), rest)) None) e
+    ap (λ k. token_by k c (cs ++ rest)) (letter_kind c p.0) ∙ ap named (prefix_found is_name_part (c ∷ cs) rest all h) ∙ ap (λ b. cond b (Some (token.Name (c ∷ cs), rest)) None) e
 
 -- a number without a sign
 unsigned_found : (text : List ℕ) (more rest : List ℕ) → AreDigits text → token_at ((text ++ more) ++ rest) ≡ number_at false ((text ++ more) ++ rest)

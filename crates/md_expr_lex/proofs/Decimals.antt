@@ -12,9 +12,9 @@ use Rattle.md_expr_tree.specs.declared.token.Token.TheVariants as token
 use Rattle.md_expr_tree.specs.Classes.{BeginsWithNo}
 use Rattle.md_expr_tree.specs.Numbers.{AreDigits, value_after, value_of, signed, most, IsFraction, none, point}
 use Rattle.md_expr_tree.specs.Tokens.{may_not_follow_number}
-use Rattle.md_expr_lex.specs.Front.{front, begins}
+use Rattle.md_expr_lex.specs.Prefix.{prefix, begins}
 use Rattle.md_expr_lex.specs.Numbers.{decimals_of, fraction_at, ended, number_from, number_at}
-use Rattle.md_expr_lex.proofs.Fronts.{Fronted, front_sound, front_found, before, not_begun, weaken}
+use Rattle.md_expr_lex.proofs.Prefixes.{Prefixed, prefix_sound, prefix_found, before, not_begun, weaken}
 use Rattle.md_expr_lex.proofs.Options.{chosen, passed, bound, mapped, same, both}
 use Rattle.md_expr_lex.proofs.Tells.{fails}
 
@@ -51,7 +51,7 @@ fraction_found : {fraction : List ℕ} {parts : ℕ} → IsFraction fraction par
 fraction_found none [] h = refl
 fraction_found none (c ∷ cs) h = rw (fails may_not_follow_number c 46 h refl) refl
 fraction_found (point {ds} are l) rest h =
-    ap decimals_of (front_found is_ascii_digit ds rest are.digits (weaken may_not_follow_number is_ascii_digit rest no_digit h)) ∙ decimals_found ds rest are l
+    ap decimals_of (prefix_found is_ascii_digit ds rest are.digits (weaken may_not_follow_number is_ascii_digit rest no_digit h)) ∙ decimals_found ds rest are l
 
 no_digit_behind : {fraction : List ℕ} {parts : ℕ} → IsFraction fraction parts → (rest : List ℕ) → BeginsWithNo may_not_follow_number rest → BeginsWithNo is_ascii_digit (fraction ++ rest)
 no_digit_behind none rest h = weaken may_not_follow_number is_ascii_digit rest no_digit h
@@ -64,7 +64,7 @@ number_found {whole} {fraction} {parts} negative are is within rest h =
     let n : begins may_not_follow_number rest ≡ false = not_begun may_not_follow_number rest h in
     let last : ended negative whole (parts, rest) ≡ Some (token.Value (literal.Number (signed negative (value_of whole * 10 ^ 9 + parts))), rest) = rw (n, s, t) refl in
     ap (number_at negative) (append_assoc whole fraction rest)
-    ∙ ap (number_from negative) (front_found is_ascii_digit whole (fraction ++ rest) are.digits (no_digit_behind is rest h))
+    ∙ ap (number_from negative) (prefix_found is_ascii_digit whole (fraction ++ rest) are.digits (no_digit_behind is rest h))
     ∙ ap (option_and_then (ended negative whole)) (fraction_found is rest h)
     ∙ last
 
@@ -97,10 +97,10 @@ fraction_sound [] x e =
     subst (Fraction []) p there
 fraction_sound (c ∷ cs) x e = go (c == 46) refl e
   where
-    go : (r : Bool) → (c == 46) ≡ r → cond r (decimals_of (front is_ascii_digit cs)) (Some (0, c ∷ cs)) ≡ Some x → Fraction (c ∷ cs) x
+    go : (r : Bool) → (c == 46) ≡ r → cond r (decimals_of (prefix is_ascii_digit cs)) (Some (0, c ∷ cs)) ≡ Some x → Fraction (c ∷ cs) x
     go true h e =
-        let f = front_sound is_ascii_digit cs in
-        subst (λ n. Fraction (n ∷ cs) x) (sym (eqb-true c 46 h)) (decimals_sound cs (front is_ascii_digit cs).0 (front is_ascii_digit cs).1 x f.whole f.all e)
+        let f = prefix_sound is_ascii_digit cs in
+        subst (λ n. Fraction (n ∷ cs) x) (sym (eqb-true c 46 h)) (decimals_sound cs (prefix is_ascii_digit cs).0 (prefix is_ascii_digit cs).1 x f.whole f.all e)
     go false h e =
         let p = same (0, c ∷ cs) x e in
         let there : Fraction (c ∷ cs) (0, c ∷ cs) = record { fraction = []; whole = refl; is = none } in
@@ -118,7 +118,7 @@ pub record Numbered (negative : Bool) (text : List ℕ) (x : Token × List ℕ) 
   pub over : BeginsWithNo may_not_follow_number x.1
   pub token : token.Value (literal.Number (signed negative (value_of whole * 10 ^ 9 + parts))) ≡ x.0
 
-number_from_sound : (negative : Bool) (text : List ℕ) (f : List ℕ × List ℕ) (x : Token × List ℕ) → Fronted is_ascii_digit text f → number_from negative f ≡ Some x → Numbered negative text x
+number_from_sound : (negative : Bool) (text : List ℕ) (f : List ℕ × List ℕ) (x : Token × List ℕ) → Prefixed is_ascii_digit text f → number_from negative f ≡ Some x → Numbered negative text x
 number_from_sound negative text f x there e =
     let y = bound (ended negative f.0) (fraction_at f.1) x e in
     let d = fraction_sound f.1 y.0 y.1 in
@@ -142,4 +142,4 @@ number_from_sound negative text f x there e =
     }
 
 pub number_sound : (negative : Bool) (text : List ℕ) (x : Token × List ℕ) → number_at negative text ≡ Some x → Numbered negative text x
-number_sound negative text x e = number_from_sound negative text (front is_ascii_digit text) x (front_sound is_ascii_digit text) e
+number_sound negative text x e = number_from_sound negative text (prefix is_ascii_digit text) x (prefix_sound is_ascii_digit text) e

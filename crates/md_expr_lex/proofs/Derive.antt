@@ -1,4 +1,4 @@
--- What is left of a text's tokens, past its front.
+-- What is left of a text's tokens, past its prefix.
 use Rattle.std.proofs.Common.{◌≡◌, ◌<◌, ℕ, ℤ, true, false, List, [], ◌∷◌, ◌++◌, length, Some, None, refl, sym, ap, ◌∙◌, subst, arith, length-append, append_assoc, append-nil}
 use Rattle.md_expr_tree.specs.declared.token.Token.{Token}
 use Rattle.md_value.specs.Name.{is_name}
@@ -16,9 +16,9 @@ blank_none : (b : ℕ) (bs : List ℕ) → is_blank b ≡ true → token_at (b �
 blank_none b bs h = rw h refl
 
 -- the text has these tokens, then those of the rest, and no others
-pub record Leaves (text : List ℕ) (front : List Token) (rest : List ℕ) : Type 0 where
-  pub whole : (ts : List Token) → Lexes rest ts → Lexes text (front ++ ts)
-  pub only : (ts : List Token) → Lexes text ts → (more : List Token) × (ts ≡ front ++ more) × Lexes rest more
+pub record Leaves (text : List ℕ) (prefix : List Token) (rest : List ℕ) : Type 0 where
+  pub whole : (ts : List Token) → Lexes rest ts → Lexes text (prefix ++ ts)
+  pub only : (ts : List Token) → Lexes text ts → (more : List Token) × (ts ≡ prefix ++ more) × Lexes rest more
 
 past_blank : {text : List ℕ} {ts : List Token} → Lexes text ts → (b : ℕ) (bs : List ℕ) → text ≡ b ∷ bs → is_blank b ≡ true → Lexes bs ts
 past_blank over b bs p h = cc
@@ -40,35 +40,35 @@ no_token over b bs p h e = cc
 no_token (blank {c = b'} g l) b bs p h e = let q : b' ≡ b = cc in let f = ap is_blank q in cc
 no_token (then s l) b bs p h e = let f = complete s in cc
 
-pub over_blank : (text rest bs : List ℕ) (front : List Token) (b : ℕ) → Leaves text front rest → rest ≡ b ∷ bs → is_blank b ≡ true → Leaves text front bs
-over_blank text rest bs front b l p h = record {
+pub over_blank : (text rest bs : List ℕ) (prefix : List Token) (b : ℕ) → Leaves text prefix rest → rest ≡ b ∷ bs → is_blank b ≡ true → Leaves text prefix bs
+over_blank text rest bs prefix b l p h = record {
   whole = λ ts m. l.whole ts (subst (λ r. Lexes r ts) (sym p) (blank h m));
   only = λ ts m. let x = l.only ts m in (x.0, x.1, past_blank x.2 b bs p h);
 }
 
-pub over_token : (text rest after : List ℕ) (front : List Token) (t : Token) → Leaves text front rest → token_at rest ≡ Some (t, after) → Leaves text (front ++ t ∷ []) after
-over_token text rest after front t l e =
+pub over_token : (text rest after : List ℕ) (prefix : List Token) (t : Token) → Leaves text prefix rest → token_at rest ≡ Some (t, after) → Leaves text (prefix ++ t ∷ []) after
+over_token text rest after prefix t l e =
     let s = sound rest (t, after) e in
     record {
       whole = λ ts m. rw append_assoc (l.whole (t ∷ ts) (rw s.whole (then s.stands m)));
       only = λ ts m.
           let x = l.only ts m in
           let y = past_token x.2 t after e in
-          (y.0, x.1 ∙ ap (λ n. front ++ n) y.1 ∙ sym (append_assoc front (t ∷ []) y.0), y.2);
+          (y.0, x.1 ∙ ap (λ n. prefix ++ n) y.1 ∙ sym (append_assoc prefix (t ∷ []) y.0), y.2);
     }
 
-pub at_fault : (text rest bs : List ℕ) (front : List Token) (b : ℕ) → Leaves text front rest → rest ≡ b ∷ bs → is_blank b ≡ false → token_at rest ≡ None → (ts : List Token) → Lexes text ts → ⊥
-at_fault text rest bs front b l p h e ts m = let x = l.only ts m in no_token x.2 b bs p h e
+pub at_fault : (text rest bs : List ℕ) (prefix : List Token) (b : ℕ) → Leaves text prefix rest → rest ≡ b ∷ bs → is_blank b ≡ false → token_at rest ≡ None → (ts : List Token) → Lexes text ts → ⊥
+at_fault text rest bs prefix b l p h e ts m = let x = l.only ts m in no_token x.2 b bs p h e
 
 none_left : {text : List ℕ} {ts : List Token} → Lexes text ts → text ≡ [] → ts ≡ []
 none_left over p = refl
 none_left (blank h l) p = cc
 none_left (then s l) p = let e = complete s in let f = ap token_at p in cc
 
-pub at_end : (text rest : List ℕ) (front : List Token) → Leaves text front rest → rest ≡ [] → Lexes text front × ((ts : List Token) → Lexes text ts → ts ≡ front)
-at_end text rest front l p = (
+pub at_end : (text rest : List ℕ) (prefix : List Token) → Leaves text prefix rest → rest ≡ [] → Lexes text prefix × ((ts : List Token) → Lexes text ts → ts ≡ prefix)
+at_end text rest prefix l p = (
   let m = l.whole [] (subst (λ r. Lexes r []) (sym p) over) in rw append-nil at m,
-  λ ts m. let x = l.only ts m in x.1 ∙ ap (λ n. front ++ n) (none_left x.2 p) ∙ append-nil front,
+  λ ts m. let x = l.only ts m in x.1 ∙ ap (λ n. prefix ++ n) (none_left x.2 p) ∙ append-nil prefix,
 )
 
 time_some : {s : List ℕ} {f : Form} → IsTime s f → 0 < length s

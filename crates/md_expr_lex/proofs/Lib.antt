@@ -3,7 +3,7 @@ pub mod Clocks
 pub mod Complete
 pub mod Decimals
 pub mod Derive
-pub mod Fronts
+pub mod Prefixes
 pub mod IsoParts
 pub mod Options
 pub mod Quoted

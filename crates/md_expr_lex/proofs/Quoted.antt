@@ -8,8 +8,8 @@ use Rattle.md_expr_tree.specs.declared.token.Token.{Token}
 use Rattle.md_expr_tree.specs.declared.token.Token.TheVariants as token
 use Rattle.md_expr_tree.specs.Classes.{is_escapable, is_quote, BeginsWithNo}
 use Rattle.md_expr_tree.specs.Tokens.{IsBody, done, plain, escaped, wildcard, AreModifiers, none, c, d, cd, dc}
-use Rattle.md_expr_lex.specs.Strings.{body_at, Body, with_front, words, modified, after_c, after_d}
-use Rattle.md_expr_lex.proofs.Fronts.{before}
+use Rattle.md_expr_lex.specs.Strings.{body_at, Body, with_prefix, words, modified, after_c, after_d}
+use Rattle.md_expr_lex.proofs.Prefixes.{before}
 use Rattle.md_expr_lex.proofs.Options.{passed, mapped, same}
 use Rattle.md_expr_lex.proofs.Tells.{fails, self, not_escape, not_wildcard}
 
@@ -37,11 +37,11 @@ modifiers_found pieces dc rest h = unmodified pieces true true rest h
 
 -- ---- stand
 
-add_plain : {q b : ℕ} {body : List ℕ} (ps : List (List ℕ)) → (b == q) ≡ false → (b == 92) ≡ false → (b == 42) ≡ false → IsBody q body ps → IsBody q (b ∷ body) (with_front b ps)
+add_plain : {q b : ℕ} {body : List ℕ} (ps : List (List ℕ)) → (b == q) ≡ false → (b == 92) ≡ false → (b == 42) ≡ false → IsBody q body ps → IsBody q (b ∷ body) (with_prefix b ps)
 add_plain [] e f g r = elim r [ ]
 add_plain (p ∷ ps) e f g r = plain e f g r
 
-add_escaped : {q b : ℕ} {body : List ℕ} (ps : List (List ℕ)) → is_escapable b ≡ true → IsBody q body ps → IsBody q (92 ∷ b ∷ body) (with_front b ps)
+add_escaped : {q b : ℕ} {body : List ℕ} (ps : List (List ℕ)) → is_escapable b ≡ true → IsBody q body ps → IsBody q (92 ∷ b ∷ body) (with_prefix b ps)
 add_escaped [] e r = elim r [ ]
 add_escaped (p ∷ ps) e r = escaped e r
 
@@ -58,23 +58,23 @@ pub record Bodied (q : ℕ) (text : List ℕ) (x : List (List ℕ) × List ℕ) 
 taken : (X : List (List ℕ) × List ℕ → Type 0) (f : List (List ℕ) × List ℕ → List (List ℕ) × List ℕ) (o : Body) (x : List (List ℕ) × List ℕ) → option_map f o ≡ Some x → ((y : List (List ℕ) × List ℕ) → o ≡ Some y → X (f y)) → X x
 taken X f o x e g = let m = mapped f o x e in subst X m.2 (g m.0 m.1)
 
-front_of : Bool → List ℕ → List ℕ
-front_of true text = 92 ∷ text
-front_of false text = text
+prefix_of : Bool → List ℕ → List ℕ
+prefix_of true text = 92 ∷ text
+prefix_of false text = text
 
 -- what is known of the text behind
 More : ℕ → List ℕ → Type 0
-More q bs = (escaping : Bool) (y : List (List ℕ) × List ℕ) → body_at escaping q bs ≡ Some y → Bodied q (front_of escaping bs) y
+More q bs = (escaping : Bool) (y : List (List ℕ) × List ℕ) → body_at escaping q bs ≡ Some y → Bodied q (prefix_of escaping bs) y
 
-escaped_sound : (b q : ℕ) (bs : List ℕ) (x : List (List ℕ) × List ℕ) (r : Bool) → More q bs → is_escapable b ≡ r → cond r (option_map (λ x. (with_front b x.0, x.1)) (body_at false q bs)) None ≡ Some x → Bodied q (92 ∷ b ∷ bs) x
-unfolding More front_of
+escaped_sound : (b q : ℕ) (bs : List ℕ) (x : List (List ℕ) × List ℕ) (r : Bool) → More q bs → is_escapable b ≡ r → cond r (option_map (λ x. (with_prefix b x.0, x.1)) (body_at false q bs)) None ≡ Some x → Bodied q (92 ∷ b ∷ bs) x
+unfolding More prefix_of
 escaped_sound b q bs x true more h e = taken (Bodied q (92 ∷ b ∷ bs)) _ _ x e (λ y f.
     let rest = more false y f in
     record { body = 92 ∷ b ∷ rest.body; whole = ap (λ l. 92 ∷ b ∷ l) rest.whole; is = add_escaped y.0 h rest.is })
 escaped_sound b q bs x false more h e = cc
 
-plain_sound : (b q : ℕ) (bs : List ℕ) (x : List (List ℕ) × List ℕ) (r s t : Bool) → More q bs → (b == q) ≡ r → (b == 92) ≡ s → (b == 42) ≡ t → cond r (Some ([] ∷ [], bs)) (cond s (body_at true q bs) (cond t (option_map (λ x. ([] ∷ x.0, x.1)) (body_at false q bs)) (option_map (λ x. (with_front b x.0, x.1)) (body_at false q bs)))) ≡ Some x → Bodied q (b ∷ bs) x
-unfolding More front_of
+plain_sound : (b q : ℕ) (bs : List ℕ) (x : List (List ℕ) × List ℕ) (r s t : Bool) → More q bs → (b == q) ≡ r → (b == 92) ≡ s → (b == 42) ≡ t → cond r (Some ([] ∷ [], bs)) (cond s (body_at true q bs) (cond t (option_map (λ x. ([] ∷ x.0, x.1)) (body_at false q bs)) (option_map (λ x. (with_prefix b x.0, x.1)) (body_at false q bs)))) ≡ Some x → Bodied q (b ∷ bs) x
+unfolding More prefix_of
 plain_sound b q bs x true s t more f g h e =
     let p : ([] ∷ [], bs) ≡ x = cc in
     let there : Bodied q (b ∷ bs) ([] ∷ [], bs) = record { body = []; whole = ap (λ n. n ∷ bs) (eqb-true b q f); is = done } in
@@ -87,15 +87,15 @@ plain_sound b q bs x false false false more f g h e = taken (Bodied q (b ∷ bs)
     let rest = more false y k in
     record { body = b ∷ rest.body; whole = ap (λ l. b ∷ l) rest.whole; is = add_plain y.0 f g h rest.is })
 
-body_stands : (text : List ℕ) (q : ℕ) (escaping : Bool) (x : List (List ℕ) × List ℕ) → body_at escaping q text ≡ Some x → Bodied q (front_of escaping text) x
-unfolding front_of More
+body_stands : (text : List ℕ) (q : ℕ) (escaping : Bool) (x : List (List ℕ) × List ℕ) → body_at escaping q text ≡ Some x → Bodied q (prefix_of escaping text) x
+unfolding prefix_of More
 body_stands [] q true x e = cc
 body_stands [] q false x e = cc
 body_stands (b ∷ bs) q true x e = escaped_sound b q bs x _ (λ escaping y. body_stands bs q escaping y) refl e
 body_stands (b ∷ bs) q false x e = plain_sound b q bs x _ _ _ (λ escaping y. body_stands bs q escaping y) refl refl refl e
 
 pub body_sound : (text : List ℕ) (q : ℕ) (x : List (List ℕ) × List ℕ) → body_at false q text ≡ Some x → Bodied q text x
-unfolding front_of
+unfolding prefix_of
 body_sound text q x e = body_stands text q false x e
 
 -- modifiers, and what follows them

@@ -1,4 +1,4 @@
--- A token that is found at the front stands there.
+-- A token that is found at the beginning stands there.
 use Rattle.std.proofs.Common.{◌≡◌, ℕ, Bool, true, false, ◌==◌, cond, List, [], ◌∷◌, ◌++◌, Some, codes, refl, sym, ap, ◌∙◌, subst, append_assoc}
 use Rattle.std.proofs.lemmas.Bool.{eqb-true}
 use Rattle.md_value.specs.Name.{is_name, is_name_part}
@@ -10,19 +10,19 @@ use Rattle.md_expr_tree.specs.Tokens.{Stands, name, string, number, time, equal,
 use Rattle.md_expr_lex.specs.declared.class.Kind.{Kind}
 use Rattle.md_expr_lex.specs.declared.class.Kind.TheVariants as kind
 use Rattle.md_expr_lex.specs.Find.{named, token_by, token_at}
-use Rattle.md_expr_lex.specs.Front.{front}
+use Rattle.md_expr_lex.specs.Prefix.{prefix}
 use Rattle.md_expr_lex.specs.Kinds.{kind_of}
 use Rattle.md_expr_lex.specs.Signs.{either, doubled}
 use Rattle.md_expr_lex.specs.Strings.{body_at, modified, string_at}
 use Rattle.md_expr_lex.specs.Times.{time_at}
 use Rattle.md_expr_lex.proofs.Clocks.{time_sound}
 use Rattle.md_expr_lex.proofs.Decimals.{Numbered, number_sound}
-use Rattle.md_expr_lex.proofs.Fronts.{Fronted, front_sound}
+use Rattle.md_expr_lex.proofs.Prefixes.{Prefixed, prefix_sound}
 use Rattle.md_expr_lex.proofs.Options.{chosen, bound, same}
 use Rattle.md_expr_lex.proofs.Quoted.{body_sound, modifiers_sound}
 use Rattle.md_expr_lex.proofs.Tells.{Tells, kind_tells}
 
--- a token at the front of a text, and what follows it
+-- a token at the beginning of a text, and what follows it
 pub record Begins (text : List ℕ) (x : Token × List ℕ) : Type 0 where
   pub spelling : List ℕ
   pub whole : text ≡ spelling ++ x.1
@@ -47,7 +47,7 @@ doubled_sound b k t (y ∷ ys) x f e =
     let h = chosen (y == k) (Some (t, ys)) x e in
     begins {spelling = b ∷ k ∷ []} x (ap (λ n. b ∷ n ∷ ys) (eqb-true y k h.0)) (f ys) h.1
 
-named_sound : (text : List ℕ) (f : List ℕ × List ℕ) (x : Token × List ℕ) → Fronted is_name_part text f → named f ≡ Some x → Begins text x
+named_sound : (text : List ℕ) (f : List ℕ × List ℕ) (x : Token × List ℕ) → Prefixed is_name_part text f → named f ≡ Some x → Begins text x
 named_sound text f x there e = let h = chosen (is_name f.0) (Some (token.Name f.0, f.1)) x e in begins x there.whole (name h.0 there.over) h.1
 
 string_sound : (b : ℕ) (bs : List ℕ) (x : Token × List ℕ) → is_quote b ≡ true → string_at b bs ≡ Some x → Begins (b ∷ bs) x
@@ -79,7 +79,7 @@ dated bs x e =
 
 found_sound : (k : Kind) (b : ℕ) (bs : List ℕ) (x : Token × List ℕ) → Tells b k → token_by k b bs ≡ Some x → Begins (b ∷ bs) x
 unfolding Tells
-found_sound kind.Letter b bs x h e = named_sound (b ∷ bs) (front is_name_part (b ∷ bs)) x (front_sound is_name_part (b ∷ bs)) e
+found_sound kind.Letter b bs x h e = named_sound (b ∷ bs) (prefix is_name_part (b ∷ bs)) x (prefix_sound is_name_part (b ∷ bs)) e
 found_sound kind.Quote b bs x h e = string_sound b bs x h e
 found_sound kind.Digit b bs x h e = numbered false [] (b ∷ bs) x no_minus (number_sound false (b ∷ bs) x e)
 found_sound kind.Minus b bs x h e = subst (λ n. Begins (n ∷ bs) x) (sym h) (numbered true (codes "-") bs x minus (number_sound true bs x e))

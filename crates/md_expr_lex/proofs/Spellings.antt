@@ -5,7 +5,7 @@ use Rattle.std.specs.List.{list_all}
 use Rattle.std.proofs.Math.Utf8.{scalar, scalars}
 use Rattle.std.proofs.lemmas.Str.{chars-nil, chars-append, chars-encodes, encodes-append, encode_ascii}
 use Rattle.md_value.specs.Name.{is_name_part}
-use Rattle.md_expr_lex.specs.Front.{front}
+use Rattle.md_expr_lex.specs.Prefix.{prefix}
 
 -- a character of a name is ASCII
 small : (c : ℕ) → is_name_part c ≡ true → c < 128
@@ -22,9 +22,9 @@ kept_ascii : (c : ℕ) (x : List ℕ × List ℕ) (cs : List ℕ) (r : Bool) →
 kept_ascii c x cs true h e = one_more c x.0 (small c h) e
 kept_ascii c x cs false h e = refl
 
-pub encodes_word : (text : List ℕ) → encode_utf8_all (front is_name_part text).0 ≡ (front is_name_part text).0
+pub encodes_word : (text : List ℕ) → encode_utf8_all (prefix is_name_part text).0 ≡ (prefix is_name_part text).0
 encodes_word [] = refl
-encodes_word (c ∷ cs) = kept_ascii c (front is_name_part cs) cs (is_name_part c) refl (encodes_word cs)
+encodes_word (c ∷ cs) = kept_ascii c (prefix is_name_part cs) cs (is_name_part c) refl (encodes_word cs)
 
 pub encodes_ascii : (cs : List ℕ) → list_all is_ascii cs ≡ true → encode_utf8_all cs ≡ cs
 encodes_ascii [] h = refl

@@ -54,7 +54,7 @@ not_escape b h = let P : ℕ → Type 0 = λ k. (92 == k) ≡ false in at_quote 
 pub not_wildcard : (b : ℕ) → is_quote b ≡ true → (42 == b) ≡ false
 not_wildcard b h = let P : ℕ → Type 0 = λ k. (42 == k) ≡ false in at_quote P b h refl refl
 
--- what a character is told to be
+-- what a character is read as
 unfoldable pub Tells : ℕ → Kind → Type 0
 Tells b kind.Blank = is_blank b ≡ true
 Tells b kind.Letter = is_name_start b ≡ true

@@ -1,5 +1,5 @@
 pub mod Find
-pub mod Front
+pub mod Prefix
 pub mod Kinds
 pub mod Numbers
 pub mod Signs

@@ -1,4 +1,4 @@
--- Forms of time at the front of a text.
+-- Forms of time at the beginning of a text.
 use Rattle.std.specs.Prelude.{ℕ, ◌==◌, Bool, true, false, ◌&&◌, if◌then◌else◌, List, [], ◌∷◌, ℤ, pos, negsuc, Option, Some, None, codes, bytes_eq}
 use Rattle.std.specs.Char.{is_ascii, is_ascii_digit}
 use Rattle.std.specs.List.{list_all}
@@ -12,7 +12,7 @@ use Rattle.md_expr_tree.specs.declared.token.Token.TheVariants as token
 use Rattle.md_expr_tree.specs.Tokens.{may_not_follow_time}
 use Rattle.md_expr_lex.specs.declared.times.Keyword.{Keyword}
 use Rattle.md_expr_lex.specs.declared.times.Keyword.TheVariants as keyword
-use Rattle.md_expr_lex.specs.Front.{Found, front, begins, after}
+use Rattle.md_expr_lex.specs.Prefix.{ScannedToken, prefix, begins, after}
 use Rattle.md_expr_lex.specs.Kinds.{is_not_closing}
 use Rattle.md_expr_lex.specs.Numbers.{whole_of}
 
@@ -34,9 +34,9 @@ abbrev pub counted : Bool → List ℕ × List ℕ → Counted
 counted negative x = option_and_then (λ n. option_map (λ rest. (n, rest)) (closing x.1)) (whole_of negative x.0)
 
 abbrev pub after_sign : Bool × List ℕ → Counted
-after_sign x = counted x.0 (front is_ascii_digit x.1)
+after_sign x = counted x.0 (prefix is_ascii_digit x.1)
 
--- the count at the front, 0 where there is none
+-- the count at the beginning, 0 where there is none
 abbrev pub count_at : List ℕ → Counted
 count_at [] = Some (pos 0, [])
 count_at (c ∷ cs) = if c == 40 then after_sign (sign_of cs) else Some (pos 0, c ∷ cs)
@@ -69,19 +69,19 @@ iso_from x = option_and_then (λ iso. option_map (λ rest. (form.Iso iso, rest))
 
 abbrev pub iso_at : List ℕ → Timed
 iso_at [] = None
-iso_at (c ∷ cs) = if c == 40 then iso_from (front is_not_closing cs) else None
+iso_at (c ∷ cs) = if c == 40 then iso_from (prefix is_not_closing cs) else None
 
 abbrev pub time_by : Keyword → List ℕ → Timed
 time_by keyword.Yesterday rest = Some (form.Day (negsuc 0), rest)
 time_by keyword.Iso rest = iso_at rest
 time_by k rest = with_count k rest
 
-abbrev pub timed : Form × List ℕ → Found
+abbrev pub timed : Form × List ℕ → ScannedToken
 timed x = if begins may_not_follow_time x.1 then None else Some (token.Value (literal.Time x.0), x.1)
 
-abbrev pub worded : List ℕ × List ℕ → Found
+abbrev pub worded : List ℕ × List ℕ → ScannedToken
 worded x = option_and_then timed (time_by (keyword_of x.0) x.1)
 
 -- the form of time behind `$`
-abbrev pub time_at : List ℕ → Found
-time_at text = option_and_then (λ rest. worded (front is_name_part rest)) (after (codes "time.") text)
+abbrev pub time_at : List ℕ → ScannedToken
+time_at text = option_and_then (λ rest. worded (prefix is_name_part rest)) (after (codes "time.") text)

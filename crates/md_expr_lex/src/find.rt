@@ -1,13 +1,13 @@
-// The token at the front of a text.
+// The token at the beginning of a text.
 ghost use Rattle.std.specs.Prelude.{◌≡◌, IfOk};
 ghost use Rattle.std.specs.Option.{option_map};
 ghost use Rattle.md_value.specs.Name.{is_name_part};
-ghost use Rattle.md_expr_lex.specs.Front.{front};
+ghost use Rattle.md_expr_lex.specs.Prefix.{prefix};
 ghost use Rattle.md_expr_lex.specs.Find.{named, token_at};
 
 use crate::class::{Kind, kind_of};
-use crate::front::{first, text_of, word};
 use crate::numbers::number;
+use crate::prefix::{first, text_of, word};
 use crate::signs::sign;
 use crate::strings::string;
 use crate::times::time;
@@ -18,7 +18,7 @@ use std::alloc::{AllocError, Global};
 /// The name, and what follows it.
 #[tactic(auto, using(crate::proofs::Spellings::encodes_word))]
 fn name(alloc: Global, text: &[char]) -> Result<Option<(Token, &[char])>, AllocError>
-    ensures { IfOk result (λ r. option_map (λ x. (x.0, x.1.now)) r ≡ named (front is_name_part text.now)) }
+    ensures { IfOk result (λ r. option_map (λ x. (x.0, x.1.now)) r ≡ named (prefix is_name_part text.now)) }
 {
     let (found, rest) = word(text);
     let found = text_of(alloc, found)?;
@@ -29,7 +29,7 @@ fn name(alloc: Global, text: &[char]) -> Result<Option<(Token, &[char])>, AllocE
     }
 }
 
-/// The token at the front of a text, and what follows it.
+/// The token at the beginning of a text, and what follows it.
 pub(crate) fn token(alloc: Global, text: &[char]) -> Result<Option<(Token, &[char])>, AllocError>
     ensures { IfOk result (λ r. option_map (λ x. (x.0, x.1.now)) r ≡ token_at text.now) }
 {

@@ -3,15 +3,15 @@
 
 mod class;
 mod find;
-mod front;
 mod numbers;
+mod prefix;
 mod signs;
 mod strings;
 mod times;
 mod tokens;
 
 pub use class::Kind;
-pub use front::characters;
+pub use prefix::characters;
 pub use strings::Act;
 pub use times::Keyword;
 pub use tokens::tokens as tokens_of;

@@ -4,7 +4,7 @@ ghost use Rattle.std.specs.Option.{option_map};
 ghost use Rattle.md_expr_tree.specs.Numbers.{value_of, signed, most};
 ghost use Rattle.md_expr_lex.specs.Numbers.{whole_of, scale_of, decimals_of, fraction_at, in_parts, sized, ended, number_at};
 
-use crate::front::{digits, lengthens_number};
+use crate::prefix::{digits, lengthens_number};
 use md_expr_tree::{Literal, Token};
 
 /// The value with one more digit, where it is at most 2^63.

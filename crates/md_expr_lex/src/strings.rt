@@ -4,7 +4,7 @@ ghost use Rattle.std.specs.Option.{option_map, option_and_then};
 ghost use Rattle.md_expr_lex.specs.Strings.{words, modified, after_c, after_d, act_of, body_at, string_at};
 
 use crate::class::is_escapable;
-use crate::front::{begins_word, first, push};
+use crate::prefix::{begins_word, first, push};
 use md_expr_tree::{Literal, Token};
 use md_value::{Items, Text};
 use std::alloc::{AllocError, Global};

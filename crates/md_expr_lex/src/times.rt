@@ -4,13 +4,13 @@ ghost use Rattle.std.specs.Char.{is_ascii};
 ghost use Rattle.std.specs.List.{list_all};
 ghost use Rattle.std.specs.Option.{option_map};
 ghost use Rattle.md_value.specs.Name.{is_name_part};
-ghost use Rattle.md_expr_lex.specs.Front.{front};
+ghost use Rattle.md_expr_lex.specs.Prefix.{prefix};
 ghost use Rattle.md_expr_lex.specs.Kinds.{is_not_closing};
 ghost use Rattle.md_expr_lex.specs.Times.{sign_of, closing, after_sign, count_at, keyword_of, form_of, with_count, iso_of, iso_from, iso_at, time_by, timed, worded, time_at};
 
 use crate::class::is_ascii;
-use crate::front::{after, digits, inside, lengthens_time, text_of, word};
 use crate::numbers::whole;
+use crate::prefix::{after, digits, inside, lengthens_time, text_of, word};
 use md_expr_tree::{Literal, Token};
 use md_time::{Form, IsoText};
 use std::alloc::{AllocError, Global};
@@ -133,7 +133,7 @@ fn iso_text(alloc: Global, text: &[char]) -> Result<Option<IsoText>, AllocError>
 }
 
 fn iso_inside(alloc: Global, text: &[char]) -> Result<Option<(Form, &[char])>, AllocError>
-    ensures { IfOk result (λ r. option_map (λ x. (x.0, x.1.now)) r ≡ iso_from (front is_not_closing text.now)) }
+    ensures { IfOk result (λ r. option_map (λ x. (x.0, x.1.now)) r ≡ iso_from (prefix is_not_closing text.now)) }
 {
     let (found, rest) = inside(text);
     match (iso_text(alloc, found)?, closing(rest)) {
@@ -176,7 +176,7 @@ fn timed(form: Form, text: &[char]) -> Option<(Token, &[char])>
 }
 
 fn worded(alloc: Global, text: &[char]) -> Result<Option<(Token, &[char])>, AllocError>
-    ensures { IfOk result (λ r. option_map (λ x. (x.0, x.1.now)) r ≡ worded (front is_name_part text.now)) }
+    ensures { IfOk result (λ r. option_map (λ x. (x.0, x.1.now)) r ≡ worded (prefix is_name_part text.now)) }
 {
     let (found, text) = word(text);
     match form(alloc, keyword_of(found), text) {

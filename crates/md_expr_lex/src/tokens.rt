@@ -5,7 +5,7 @@ ghost use Rattle.md_expr_tree.specs.Tokens.{Lexes};
 
 use crate::class::is_blank;
 use crate::find::token;
-use crate::front::first;
+use crate::prefix::first;
 use md_expr_tree::Token;
 use std::alloc::{AllocError, Global};
 

@@ -33,14 +33,14 @@ abbrev pub Unreadable : List Token → Type 0
 Unreadable ts = (e : Expr) → IsExpression ts e → ⊥
 
 -- what the items of an expression tell
-pub record Told (ts : List Token) (e : Expr) (d : IsExpression ts e) : Type 0 where
+pub record Known (ts : List Token) (e : Expr) (d : IsExpression ts e) : Type 0 where
   pub is : List Item
   pub items : group 0 ts ≡ Some is
   pub deep : deepest 0 is ≡ groups d
   pub count : comparisons_in is ≡ comparisons e
 
-pub told : (ts : List Token) (e : Expr) (d : IsExpression ts e) → Told ts e d
-told ts _ (expression {es = es} a) =
+pub known : (ts : List Token) (e : Expr) (d : IsExpression ts e) → Known ts e d
+known ts _ (expression {es = es} a) =
     let c = any_counts a in
     record {
       is = c.0 ++ [];
@@ -51,7 +51,7 @@ told ts _ (expression {es = es} a) =
 
 -- no items, or items that the machine refuses
 pub without_items : (ts : List Token) → group 0 ts ≡ None → Unreadable ts
-without_items ts e x d = let t = told ts x d in let h = t.items in cc
+without_items ts e x d = let t = known ts x d in let h = t.items in cc
 
 accepted_expression : (ts : List Token) (e : Expr) (d : IsExpression ts e) (is : List Item) → group 0 ts ≡ Some is → run false [] [] [] is ≡ Some e
 accepted_expression ts e d is h = sym (ap (option_and_then (run false [] [] [])) h) ∙ expression_runs d
@@ -65,23 +65,23 @@ not_accepted ts is h no_run x d =
 pub without_expression : (ts : List Token) (is : List Item) → group 0 ts ≡ Some is → run false [] [] [] is ≡ None → Unreadable ts
 without_expression ts is h no_run x d = let r = accepted_expression ts x d is h in cc
 
--- an expression, with what the survey told of it
-pub record Found (ts : List Token) (is : List Item) (e : Expr) : Type 0 where
+-- an expression, with what the survey found of it
+pub record ParsedItem (ts : List Token) (is : List Item) (e : Expr) : Type 0 where
   pub reads : IsExpression ts e
   pub deep : deepest 0 is ≡ groups reads
   pub count : comparisons_in is ≡ comparisons e
 
-pub found : (ts : List Token) (is : List Item) (e : Expr) → group 0 ts ≡ Some is → run false [] [] [] is ≡ Some e → Found ts is e
+pub found : (ts : List Token) (is : List Item) (e : Expr) → group 0 ts ≡ Some is → run false [] [] [] is ≡ Some e → ParsedItem ts is e
 found ts is e h r =
     let d = read_sound ts e (ap (option_and_then (run false [] [] [])) h ∙ r) in
-    let t = told ts e d in
+    let t = known ts e d in
     let same : t.is ≡ is = let i = t.items in cc in
     record { reads = d; deep = sym (ap (deepest 0) same) ∙ t.deep; count = sym (ap comparisons_in same) ∙ t.count }
 
-pub some_found : (ts : List Token) (is : List Item) → group 0 ts ≡ Some is → accepts false 0 is ≡ true → (e : Expr) × Found ts is e
+pub some_found : (ts : List Token) (is : List Item) → group 0 ts ≡ Some is → accepts false 0 is ≡ true → (e : Expr) × ParsedItem ts is e
 some_found ts is h a = go (run false [] [] [] is) refl
   where
-    go : (o : Option Expr) → run false [] [] [] is ≡ o → (e : Expr) × Found ts is e
+    go : (o : Option Expr) → run false [] [] [] is ≡ o → (e : Expr) × ParsedItem ts is e
     go (Some e) r = (e, found ts is e h r)
     go None r = let b = accepted is false [] [] [] in let n = ap is_some r in cc
 
@@ -92,7 +92,7 @@ one_reading ts e f d g = let a = expression_runs d in let b = expression_runs g 
 -- and has one greatest number of groups that are open at one place
 pub one_depth : (ts : List Token) (e f : Expr) (d : IsExpression ts e) (g : IsExpression ts f) → groups d ≡ groups g
 one_depth ts e f d g =
-    let t = told ts e d in
-    let u = told ts f g in
+    let t = known ts e d in
+    let u = known ts f g in
     let same : t.is ≡ u.is = let i = t.items in let j = u.items in cc in
     sym t.deep ∙ ap (deepest 0) same ∙ u.deep

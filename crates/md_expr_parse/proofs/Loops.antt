@@ -23,18 +23,18 @@ group_skip (suc k) [] = refl
 group_skip zero (t ∷ ts) = refl
 group_skip (suc k) (t ∷ ts) = group_skip k ts
 
-add : (o : Option (List Item)) (front : List Item) (i : Item) → option_map (λ is. (front ++ i ∷ []) ++ is) o ≡ option_map (λ is. front ++ is) (option_map (λ is. i ∷ is) o)
-add None front i = refl
-add (Some is) front i = ap Some (append_assoc front (i ∷ []) is)
+add : (o : Option (List Item)) (prefix : List Item) (i : Item) → option_map (λ is. (prefix ++ i ∷ []) ++ is) o ≡ option_map (λ is. prefix ++ is) (option_map (λ is. i ∷ is) o)
+add None prefix i = refl
+add (Some is) prefix i = ap Some (append_assoc prefix (i ∷ []) is)
 
-pub added : (front back : List Item) (t : Token) (ts rest new : List Token) (i : Item) (r : Option (List Item)) → option_map (λ is. front ++ is) (group 0 ts) ≡ r → ts ≡ t ∷ rest → Takes (Some i) (item_at t rest) rest new → back ≡ front ++ i ∷ [] → option_map (λ is. back ++ is) (group 0 new) ≡ r
-added front back t ts rest new i r h p took b =
+pub added : (prefix back : List Item) (t : Token) (ts rest new : List Token) (i : Item) (r : Option (List Item)) → option_map (λ is. prefix ++ is) (group 0 ts) ≡ r → ts ≡ t ∷ rest → Takes (Some i) (item_at t rest) rest new → back ≡ prefix ++ i ∷ [] → option_map (λ is. back ++ is) (group 0 new) ≡ r
+added prefix back t ts rest new i r h p took b =
     let k = took.0 in
     let here : group 0 (t ∷ rest) ≡ option_map (λ is. i ∷ is) (group k rest) = ap (option_and_then (λ found. option_map (λ is. found.0 ∷ is) (group found.1 rest))) took.1 in
     ap (λ b. option_map (λ is. b ++ is) (group 0 new)) b
-    ∙ ap (λ n. option_map (λ is. (front ++ i ∷ []) ++ is) (group 0 n)) took.2
-    ∙ sym (ap (option_map (λ is. (front ++ i ∷ []) ++ is)) (group_skip k rest))
-    ∙ add (group k rest) front i
-    ∙ sym (ap (option_map (λ is. front ++ is)) here)
-    ∙ sym (ap (λ ts. option_map (λ is. front ++ is) (group 0 ts)) p)
+    ∙ ap (λ n. option_map (λ is. (prefix ++ i ∷ []) ++ is) (group 0 n)) took.2
+    ∙ sym (ap (option_map (λ is. (prefix ++ i ∷ []) ++ is)) (group_skip k rest))
+    ∙ add (group k rest) prefix i
+    ∙ sym (ap (option_map (λ is. prefix ++ is)) here)
+    ∙ sym (ap (λ ts. option_map (λ is. prefix ++ is) (group 0 ts)) p)
     ∙ h

@@ -20,7 +20,7 @@ use Rattle.md_expr_tree.specs.declared.token.Item.TheVariants as item
 use Rattle.md_expr_tree.specs.WellMade.{is_bound}
 use Rattle.md_expr_tree.specs.Grammar.{IsSubject, name, star, equal, not_equal, IsBound, number, time, IsValue, words, bound, IsComparison, compare, present, range, all_of, any_of, IsUnit, comparison, group as in_group, not_group, IsAll, last_unit, and, IsAny, last_all, or, IsExpression, expression}
 use Rattle.md_expr_parse.specs.declared.build.Level.{Level}
-use Rattle.md_expr_parse.specs.Group.{Found, is_value, value_at, comparison_at, end_at, range_at, named_at, not_at, item_at, group}
+use Rattle.md_expr_parse.specs.Group.{ParsedItem, is_value, value_at, comparison_at, end_at, range_at, named_at, not_at, item_at, group}
 use Rattle.md_expr_parse.specs.Machine.{closed, signed, run}
 
 -- the tokens of an item
@@ -37,21 +37,21 @@ AreItems : List Token → List Item → Type 0
 AreItems ts [] = ts ≡ []
 AreItems ts (i ∷ is) = (a b : List Token) × (ts ≡ a ++ b) × IsItem a i × AreItems b is
 
--- an item at the front, and the tokens behind it
+-- an item at the beginning, and the tokens behind it
 record Begins (ts : List Token) (found : Item × ℕ) : Type 0 where
-  front : List Token
-  whole : ts ≡ front ++ drop (suc found.1) ts
-  is : IsItem front found.0
+  prefix : List Token
+  whole : ts ≡ prefix ++ drop (suc found.1) ts
+  is : IsItem prefix found.0
 
-begins : (ts front : List Token) (i : Item) (n : ℕ) (x : Item × ℕ) → IsItem front i → ts ≡ front ++ drop (suc n) ts → Some (i, n) ≡ Some x → Begins ts x
-begins ts front i n x is whole e =
+begins : (ts prefix : List Token) (i : Item) (n : ℕ) (x : Item × ℕ) → IsItem prefix i → ts ≡ prefix ++ drop (suc n) ts → Some (i, n) ≡ Some x → Begins ts x
+begins ts prefix i n x is whole e =
     let p : (i, n) ≡ x = cc in
-    let at_n : Begins ts (i, n) = record { front = front; whole = whole; is = is } in
+    let at_n : Begins ts (i, n) = record { prefix = prefix; whole = whole; is = is } in
     subst (Begins ts) p at_n
 
-tested : (t : Test) (ts front : List Token) (n : ℕ) (x : Item × ℕ) → IsComparison front t → ts ≡ front ++ drop (suc n) ts → Some (item.Test t, n) ≡ Some x → Begins ts x
+tested : (t : Test) (ts prefix : List Token) (n : ℕ) (x : Item × ℕ) → IsComparison prefix t → ts ≡ prefix ++ drop (suc n) ts → Some (item.Test t, n) ≡ Some x → Begins ts x
 unfolding IsItem
-tested t ts front n x is whole e = begins ts front (item.Test t) n x is whole e
+tested t ts prefix n x is whole e = begins ts prefix (item.Test t) n x is whole e
 
 is_value_sound : (v : Literal) → is_value v ≡ true → IsValue v
 is_value_sound (literal.Number a) e = bound number
@@ -123,10 +123,10 @@ unfolding AreItems
 with_items t ts i k None is b more e = cc
 with_items t ts i k (Some js) is b more e =
     let p : i ∷ js ≡ is = cc in
-    let whole : AreItems (t ∷ ts) (i ∷ js) = (b.front, drop k ts, b.whole, b.is, more js refl) in
+    let whole : AreItems (t ∷ ts) (i ∷ js) = (b.prefix, drop k ts, b.whole, b.is, more js refl) in
     subst (AreItems (t ∷ ts)) p whole
 
-found_sound : (t : Token) (ts : List Token) (is : List Item) (o : Found) → item_at t ts ≡ o → option_and_then (λ found. option_map (λ is. found.0 ∷ is) (group found.1 ts)) o ≡ Some is → ((k : ℕ) (js : List Item) → group k ts ≡ Some js → AreItems (drop k ts) js) → AreItems (t ∷ ts) is
+found_sound : (t : Token) (ts : List Token) (is : List Item) (o : ParsedItem) → item_at t ts ≡ o → option_and_then (λ found. option_map (λ is. found.0 ∷ is) (group found.1 ts)) o ≡ Some is → ((k : ℕ) (js : List Item) → group k ts ≡ Some js → AreItems (drop k ts) js) → AreItems (t ∷ ts) is
 found_sound t ts is None f e more = cc
 found_sound t ts is (Some x) f e more = with_items t ts x.0 x.1 (group x.1 ts) is (item_sound t ts x f) (more x.1) e
 

@@ -16,8 +16,8 @@ use Rattle.md_expr_tree.specs.declared.token.Item.TheVariants as item
 use Rattle.md_expr_tree.specs.WellMade.{is_bound}
 
 -- an item, and how many tokens it takes after its first
-abbrev pub Found : Type 0
-Found = Option (Item × ℕ)
+abbrev pub ParsedItem : Type 0
+ParsedItem = Option (Item × ℕ)
 
 abbrev pub is_equality : Op → Bool
 is_equality op.Equal = true
@@ -36,44 +36,44 @@ is_value _ = true
 abbrev pub compared : Subject → Op → Literal → Option Item
 compared s o v = if is_value v then Some (item.Test (test.Compare s o v)) else None
 
-abbrev pub value_at : Subject → Op → List Token → Found
+abbrev pub value_at : Subject → Op → List Token → ParsedItem
 value_at s o (token.Value v ∷ ts) = if is_value v then Some (item.Test (test.Compare s o v), 2) else None
 value_at s o (token.Star ∷ ts) = if is_equality o then Some (item.Test (test.Compare s o literal.Present), 2) else None
 value_at s o _ = None
 
-abbrev pub comparison_at : Subject → List Token → Found
+abbrev pub comparison_at : Subject → List Token → ParsedItem
 comparison_at s (token.Op o ∷ ts) = value_at s o ts
 comparison_at s _ = None
 
-abbrev pub end_at : List ℕ → Literal → Literal → List Token → Found
+abbrev pub end_at : List ℕ → Literal → Literal → List Token → ParsedItem
 end_at n a b (token.Close ∷ ts) = if is_bound a && is_bound b then Some (item.Test (test.Range n a b), 7) else None
 end_at n a b _ = None
 
-abbrev pub greatest_at : List ℕ → Literal → List Token → Found
+abbrev pub greatest_at : List ℕ → Literal → List Token → ParsedItem
 greatest_at n a (token.Value b ∷ ts) = end_at n a b ts
 greatest_at n a _ = None
 
-abbrev pub comma_at : (List Token → Found) → List Token → Found
+abbrev pub comma_at : (List Token → ParsedItem) → List Token → ParsedItem
 comma_at then_at (token.Comma ∷ ts) = then_at ts
 comma_at then_at _ = None
 
-abbrev pub least_at : List ℕ → List Token → Found
+abbrev pub least_at : List ℕ → List Token → ParsedItem
 least_at n (token.Value a ∷ ts) = comma_at (greatest_at n a) ts
 least_at n _ = None
 
-abbrev pub range_at : List Token → Found
+abbrev pub range_at : List Token → ParsedItem
 range_at (token.Name n ∷ ts) = comma_at (least_at n) ts
 range_at _ = None
 
-abbrev pub named_at : List ℕ → List Token → Found
+abbrev pub named_at : List ℕ → List Token → ParsedItem
 named_at n (token.Open ∷ ts) = if bytes_eq n (codes "InRange") then range_at ts else None
 named_at n ts = comparison_at (subject.Named n) ts
 
-abbrev pub not_at : List Token → Found
+abbrev pub not_at : List Token → ParsedItem
 not_at (token.Open ∷ ts) = Some (item.OpenNot, 1)
 not_at _ = None
 
-abbrev pub item_at : Token → List Token → Found
+abbrev pub item_at : Token → List Token → ParsedItem
 item_at token.And ts = Some (item.And, 0)
 item_at token.Or ts = Some (item.Or, 0)
 item_at token.Open ts = Some (item.Open, 0)
@@ -90,6 +90,6 @@ group zero (t ∷ ts) = option_and_then (λ found. option_map (λ is. found.0 �
 group (suc k) (t ∷ ts) = group k ts
 
 -- what reading an item answers, and the tokens that it leaves
-abbrev pub Takes : Option Item → Found → List Token → List Token → Type 0
+abbrev pub Takes : Option Item → ParsedItem → List Token → List Token → Type 0
 Takes None found old new = found ≡ None
 Takes (Some i) found old new = (k : ℕ) × (found ≡ Some (i, k)) × (new ≡ drop k old)

@@ -4,7 +4,7 @@ use Rattle.std.specs.List.{list_any}
 use Rattle.std.proofs.lemmas.Grind.{flat_map-append}
 use Rattle.std.proofs.lemmas.List.Folds.{list_any-append}
 use Rattle.md_files.specs.Findings.{Finding, is_failed, is_absent, end_of, err_line, count_line}
-use Rattle.md_files.specs.Reports.{Report}
+use Rattle.md_files.specs.Reports.{FileReport}
 use Rattle.md_files.specs.Additions.{worse, counted, counted_all}
 use Rattle.md_files.specs.declared.report.End.{End}
 use Rattle.md_files.specs.declared.report.End.TheVariants as ended
@@ -41,13 +41,13 @@ worse_ok ended.Failed = refl
 worse_ok ended.Absent = refl
 
 -- one finding is several
-pub counted_one : (r : Report) (f : Finding) → counted r f ≡ counted_all r (f ∷ [])
+pub counted_one : (r : FileReport) (f : Finding) → counted r f ≡ counted_all r (f ∷ [])
 counted_one r f = rw (append-nil (count_line f), append-nil (err_line f)) refl
 
-pub counted_none : (r : Report) → r ≡ counted_all r []
+pub counted_none : (r : FileReport) → r ≡ counted_all r []
 counted_none r = rw (worse_ok r.end, append-nil r.out, append-nil r.err) refl
 
-pub counted_more : (r : Report) (fs : List Finding) (gs : List Finding) → counted_all (counted_all r fs) gs ≡ counted_all r (fs ++ gs)
+pub counted_more : (r : FileReport) (fs : List Finding) (gs : List Finding) → counted_all (counted_all r fs) gs ≡ counted_all r (fs ++ gs)
 counted_more r fs gs =
     rw (end_of-append fs gs, flat_map-append count_line fs gs, flat_map-append err_line fs gs, worse_assoc r.end (end_of fs) (end_of gs))
     (simp append_assoc)

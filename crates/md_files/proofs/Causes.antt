@@ -10,13 +10,13 @@ use Rattle.md_source.specs.Causes.{Rose}
 use Rattle.md_source.specs.Tree.{Content, File, file_at}
 use Rattle.md_source.specs.declared.tree.Entry.{Entry}
 use Rattle.imp_kind.specs.Imports.{import}
-use Rattle.md_files.specs.Answers.{Answer, IsRead, AreAsked, IsCounted, of_import, outcome, failures}
-use Rattle.md_files.specs.Answers.Answer.{given, absent, failed}
-use Rattle.md_files.specs.Folders.{Found, IsFound, AreFound, AreRead, found_failures, all_failures}
-use Rattle.md_files.specs.Folders.Found.{file, unfound, folder, unlisted, nothing}
+use Rattle.md_files.specs.Answers.{FileAnswer, IsRead, AreAsked, IsCounted, of_import, outcome, failures}
+use Rattle.md_files.specs.Answers.FileAnswer.{given, absent, failed}
+use Rattle.md_files.specs.Folders.{PathResult, IsFound, AreFound, AreRead, found_failures, all_failures}
+use Rattle.md_files.specs.Folders.PathResult.{file, unfound, folder, unlisted, nothing}
 use Rattle.md_files.specs.Findings.{asked_findings, read_findings, found_findings, all_findings, is_failed, is_absent, end_of}
 use Rattle.md_files.specs.Findings.Finding.{named, listed}
-use Rattle.md_files.specs.Reports.{Report, Shows, Imports, EndHasCause, tells_file, tells, tells_files, tells_all}
+use Rattle.md_files.specs.Reports.{FileReport, Shows, Imports, EndHasCause, tells_file, tells, tells_files, tells_all}
 use Rattle.md_files.specs.declared.report.End.{End}
 use Rattle.md_files.specs.declared.report.End.TheVariants as ended
 use Rattle.md_files.proofs.Additions.{end_by}
@@ -50,7 +50,7 @@ pub there_named : (path : PathBytes) (given : Result (List Attr) Fault) → is_a
 there_named path (Ok attrs) = refl
 there_named path (Err fault) = refl
 
-there_listed : (entries : List Entry) (answers : List Answer) (offset : ℤ) → list_any is_absent (read_findings offset entries answers) ≡ false
+there_listed : (entries : List Entry) (answers : List FileAnswer) (offset : ℤ) → list_any is_absent (read_findings offset entries answers) ≡ false
 there_listed [] answers offset = refl
 there_listed (entry ∷ entries) [] offset = refl
 there_listed (entry ∷ entries) (answer ∷ answers) offset = there_listed entries answers offset
@@ -60,52 +60,52 @@ or_false true = refl
 or_false false = refl
 
 module _ (offset : ℤ) where
-  named_tells : (path : PathBytes) (answer : Answer) → Tells (is_failed (named path (outcome offset answer))) (failures (answer ∷ []))
+  named_tells : (path : PathBytes) (answer : FileAnswer) → Tells (is_failed (named path (outcome offset answer))) (failures (answer ∷ []))
   named_tells path (given entry bytes) = rw (quiet_named path (import entry bytes offset)) tells_none
   named_tells path absent = tells_none
   named_tells path failed = tells_one
 
-  listed_tells : (path : PathBytes) (answer : Answer) → Tells (is_failed (listed path (outcome offset answer))) (failures (answer ∷ []))
+  listed_tells : (path : PathBytes) (answer : FileAnswer) → Tells (is_failed (listed path (outcome offset answer))) (failures (answer ∷ []))
   listed_tells path (given entry bytes) = rw (quiet_listed path (import entry bytes offset)) tells_none
   listed_tells path absent = tells_none
   listed_tells path failed = tells_one
 
-  asked_tells : (told : Option Content) (before now : ℕ) (paths : List PathBytes) (answers : List Answer) → AreAsked told before now paths answers
+  asked_tells : (known : Option Content) (before now : ℕ) (paths : List PathBytes) (answers : List FileAnswer) → AreAsked known before now paths answers
       → Tells (list_any is_failed (asked_findings offset paths answers)) (failures answers)
-  asked_tells told before now [] [] kept = tells_none
-  asked_tells told before now [] (answer ∷ answers) none = absurd none
-  asked_tells told before now (path ∷ paths) [] none = absurd none
-  asked_tells told before now (path ∷ paths) (answer ∷ answers) turn =
+  asked_tells known before now [] [] kept = tells_none
+  asked_tells known before now [] (answer ∷ answers) none = absurd none
+  asked_tells known before now (path ∷ paths) [] none = absurd none
+  asked_tells known before now (path ∷ paths) (answer ∷ answers) turn =
       rw (sym (first_failures answer answers))
       (tells_or (is_failed (named path (outcome offset answer))) (list_any is_failed (asked_findings offset paths answers)) (failures (answer ∷ [])) (failures answers)
-      (named_tells path answer) (asked_tells told turn.0 now paths answers turn.2))
+      (named_tells path answer) (asked_tells known turn.0 now paths answers turn.2))
 
-  read_tells : (told : Option Content) (before now : ℕ) (entries : List Entry) (answers : List Answer) → AreRead told before now entries answers
+  read_tells : (known : Option Content) (before now : ℕ) (entries : List Entry) (answers : List FileAnswer) → AreRead known before now entries answers
       → Tells (list_any is_failed (read_findings offset entries answers)) (failures answers)
-  read_tells told before now [] [] kept = tells_none
-  read_tells told before now [] (answer ∷ answers) none = absurd none
-  read_tells told before now (entry ∷ entries) [] none = absurd none
-  read_tells told before now (entry ∷ entries) (answer ∷ answers) turn =
+  read_tells known before now [] [] kept = tells_none
+  read_tells known before now [] (answer ∷ answers) none = absurd none
+  read_tells known before now (entry ∷ entries) [] none = absurd none
+  read_tells known before now (entry ∷ entries) (answer ∷ answers) turn =
       rw (sym (first_failures answer answers))
       (tells_or (is_failed (listed entry.path (outcome offset answer))) (list_any is_failed (read_findings offset entries answers)) (failures (answer ∷ [])) (failures answers)
-      (listed_tells entry.path answer) (read_tells told turn.0 now entries answers turn.2))
+      (listed_tells entry.path answer) (read_tells known turn.0 now entries answers turn.2))
 
-  found_tells : (told : Option Content) (before now : ℕ) (path : PathBytes) (found : Found) → IsFound told before now path found → Tells (list_any is_failed (found_findings offset path found)) (found_failures found)
-  found_tells told before now path (file answer) asked = rw (or_false (is_failed (named path (outcome offset answer)))) (named_tells path answer)
-  found_tells told before now path unfound asked = tells_one
-  found_tells told before now path (folder entries answers) asked = read_tells told before now entries answers asked.2
-  found_tells told before now path unlisted asked = tells_one
-  found_tells told before now path nothing asked = tells_none
+  found_tells : (known : Option Content) (before now : ℕ) (path : PathBytes) (found : PathResult) → IsFound known before now path found → Tells (list_any is_failed (found_findings offset path found)) (found_failures found)
+  found_tells known before now path (file answer) asked = rw (or_false (is_failed (named path (outcome offset answer)))) (named_tells path answer)
+  found_tells known before now path unfound asked = tells_one
+  found_tells known before now path (folder entries answers) asked = read_tells known before now entries answers asked.2
+  found_tells known before now path unlisted asked = tells_one
+  found_tells known before now path nothing asked = tells_none
 
-  all_tells : (told : Option Content) (before now : ℕ) (paths : List PathBytes) (found : List Found) → AreFound told before now paths found
+  all_tells : (known : Option Content) (before now : ℕ) (paths : List PathBytes) (found : List PathResult) → AreFound known before now paths found
       → Tells (list_any is_failed (all_findings offset paths found)) (all_failures found)
-  all_tells told before now [] [] kept = tells_none
-  all_tells told before now [] (f ∷ found) none = absurd none
-  all_tells told before now (path ∷ paths) [] none = absurd none
-  all_tells told before now (path ∷ paths) (f ∷ found) turn =
+  all_tells known before now [] [] kept = tells_none
+  all_tells known before now [] (f ∷ found) none = absurd none
+  all_tells known before now (path ∷ paths) [] none = absurd none
+  all_tells known before now (path ∷ paths) (f ∷ found) turn =
       rw (list_any-append is_failed (found_findings offset path f) (all_findings offset paths found))
       (tells_or (list_any is_failed (found_findings offset path f)) (list_any is_failed (all_findings offset paths found)) (found_failures f) (all_failures found)
-      (found_tells told before turn.0 path f turn.1) (all_tells told turn.0 now paths found turn.2))
+      (found_tells known before turn.0 path f turn.1) (all_tells known turn.0 now paths found turn.2))
 
 rose_one : (most before now n : ℕ) → 1 ≤ n → min (before + n) most ≤ now → min (before + 1) most ≤ now
 rose_one most before now n some rose = omega arith
@@ -127,106 +127,106 @@ is_absent_end true none is = cc
 is_absent_end false true is = refl
 is_absent_end false false is = cc
 
--- where nothing failed and all is told, nothing is absent
-pub complete_end : (before now : ℕ) (end : End) (told : Bool) → EndHasCause before now end → (end ≡ ended.Absent → told ≡ false) → told ≡ true → ¬ (Rose before now) → end ≡ ended.Ok
-complete_end before now ended.Ok told cause untold is quiet = refl
-complete_end before now ended.Failed told cause untold is quiet = absurd (quiet cause.1)
-complete_end before now ended.Absent told cause untold is quiet = absurd (not_true told (untold refl) is)
+-- where nothing failed and all is known, nothing is absent
+pub complete_end : (before now : ℕ) (end : End) (known : Bool) → EndHasCause before now end → (end ≡ ended.Absent → known ≡ false) → known ≡ true → ¬ (Rose before now) → end ≡ ended.Ok
+complete_end before now ended.Ok known cause present is quiet = refl
+complete_end before now ended.Failed known cause present is quiet = absurd (quiet cause.1)
+complete_end before now ended.Absent known cause present is quiet = absurd (not_true known (present refl) is)
 
 gone : (o : Option File) (entry : Entry) → o ≡ None → option_map (λ (f : File). f.0) o ≡ Some entry → ⊥
 gone None entry none some = cc
 gone (Some f) entry none some = cc
 
 module _ (content : Content) (offset : ℤ) where
-  absent_untold : (before now : ℕ) (paths : List PathBytes) (answers : List Answer) → AreAsked (Some content) before now paths answers
+  absent_present : (before now : ℕ) (paths : List PathBytes) (answers : List FileAnswer) → AreAsked (Some content) before now paths answers
       → list_any is_absent (asked_findings offset paths answers) ≡ true → tells_files content paths ≡ false
-  absent_untold before now [] [] kept is = cc
-  absent_untold before now [] (answer ∷ answers) none is = absurd none
-  absent_untold before now (path ∷ paths) [] none is = absurd none
-  absent_untold before now (path ∷ paths) (given entry bytes ∷ answers) turn is =
-      and_false (tells_file content path) (tells_files content paths) (absent_untold turn.0 now paths answers turn.2 (rw (there_named path (import entry bytes offset)) at is))
-  absent_untold before now (path ∷ paths) (absent ∷ answers) turn is = rw turn.1.1 refl
-  absent_untold before now (path ∷ paths) (failed ∷ answers) turn is =
-      and_false (tells_file content path) (tells_files content paths) (absent_untold turn.0 now paths answers turn.2 is)
+  absent_present before now [] [] kept is = cc
+  absent_present before now [] (answer ∷ answers) none is = absurd none
+  absent_present before now (path ∷ paths) [] none is = absurd none
+  absent_present before now (path ∷ paths) (given entry bytes ∷ answers) turn is =
+      and_false (tells_file content path) (tells_files content paths) (absent_present turn.0 now paths answers turn.2 (rw (there_named path (import entry bytes offset)) at is))
+  absent_present before now (path ∷ paths) (absent ∷ answers) turn is = rw turn.1.1 refl
+  absent_present before now (path ∷ paths) (failed ∷ answers) turn is =
+      and_false (tells_file content path) (tells_files content paths) (absent_present turn.0 now paths answers turn.2 is)
 
-  found_untold : (before now : ℕ) (path : PathBytes) (found : Found) → IsFound (Some content) before now path found
+  found_present : (before now : ℕ) (path : PathBytes) (found : PathResult) → IsFound (Some content) before now path found
       → list_any is_absent (found_findings offset path found) ≡ true → tells content path ≡ false
-  found_untold before now path (file (given entry bytes)) asked is = absurd (not_true _ (or_false _ ∙ there_named path (import entry bytes offset)) is)
-  found_untold before now path (file absent) asked is =
+  found_present before now path (file (given entry bytes)) asked is = absurd (not_true _ (or_false _ ∙ there_named path (import entry bytes offset)) is)
+  found_present before now path (file absent) asked is =
       let none : file_at content.files path ≡ None = subst (λ (p : PathBytes). file_at content.files p ≡ None) asked.1.named asked.2.2 in
-      absurd (gone (file_at content.files path) asked.0 none asked.1.known)
-  found_untold before now path (file failed) asked is = cc
-  found_untold before now path unfound asked is = cc
-  found_untold before now path (folder entries answers) asked is = absurd (not_true _ (there_listed entries answers offset) is)
-  found_untold before now path unlisted asked is = cc
-  found_untold before now path nothing asked is = rw (asked.1, asked.2) refl
+      absurd (gone (file_at content.files path) asked.0 none asked.1.agrees)
+  found_present before now path (file failed) asked is = cc
+  found_present before now path unfound asked is = cc
+  found_present before now path (folder entries answers) asked is = absurd (not_true _ (there_listed entries answers offset) is)
+  found_present before now path unlisted asked is = cc
+  found_present before now path nothing asked is = rw (asked.1, asked.2) refl
 
   or_true : (b c : Bool) → (b || c) ≡ true → b ≡ false → c ≡ true
   or_true true c is none = cc
   or_true false c is none = is
 
-  all_untold : (before now : ℕ) (paths : List PathBytes) (found : List Found) → AreFound (Some content) before now paths found
+  all_present : (before now : ℕ) (paths : List PathBytes) (found : List PathResult) → AreFound (Some content) before now paths found
       → list_any is_absent (all_findings offset paths found) ≡ true → tells_all content paths ≡ false
-  all_untold before now [] [] kept is = cc
-  all_untold before now [] (f ∷ found) none is = absurd none
-  all_untold before now (path ∷ paths) [] none is = absurd none
-  all_untold before now (path ∷ paths) (f ∷ found) turn is =
+  all_present before now [] [] kept is = cc
+  all_present before now [] (f ∷ found) none is = absurd none
+  all_present before now (path ∷ paths) [] none is = absurd none
+  all_present before now (path ∷ paths) (f ∷ found) turn is =
       elim (list_any is_absent (found_findings offset path f)) as (λ b. list_any is_absent (found_findings offset path f) ≡ b → tells_all content (path ∷ paths) ≡ false) [
-        | true ↦ λ here. rw (found_untold before turn.0 path f turn.1 here) refl
+        | true ↦ λ here. rw (found_present before turn.0 path f turn.1 here) refl
         | false ↦
             λ here.
             let joined = sym (list_any-append is_absent (found_findings offset path f) (all_findings offset paths found)) ∙ is in
-            and_false (tells content path) (tells_all content paths) (all_untold turn.0 now paths found turn.2 (or_true (list_any is_absent (found_findings offset path f)) (list_any is_absent (all_findings offset paths found)) joined here))
+            and_false (tells content path) (tells_all content paths) (all_present turn.0 now paths found turn.2 (or_true (list_any is_absent (found_findings offset path f)) (list_any is_absent (all_findings offset paths found)) joined here))
       ] refl
 
-module _ (before now : ℕ) (offset : ℤ) (raw : Bool) (marker : List ℕ) (names : List (List ℕ)) (paths : List PathBytes) (report : Report) where
-  pub shows_cause : (told : Option Content) → Shows told before now offset raw marker names paths report → EndHasCause before now report.end
-  shows_cause told shows =
+module _ (before now : ℕ) (offset : ℤ) (raw : Bool) (marker : List ℕ) (names : List (List ℕ)) (paths : List PathBytes) (report : FileReport) where
+  pub shows_cause : (known : Option Content) → Shows known before now offset raw marker names paths report → EndHasCause before now report.end
+  shows_cause known shows =
       rw shows.is
       (cause_by before now (failures shows.answers) (list_any is_failed (asked_findings offset paths shows.answers)) (list_any is_absent (asked_findings offset paths shows.answers))
-      (are_asked_counted told before now paths shows.answers shows.asked) (asked_tells offset told before now paths shows.answers shows.asked))
+      (are_asked_counted known before now paths shows.answers shows.asked) (asked_tells offset known before now paths shows.answers shows.asked))
 
-  shows_untold : (content : Content) → Shows (Some content) before now offset raw marker names paths report → report.end ≡ ended.Absent → tells_files content paths ≡ false
-  shows_untold content shows is =
-      absent_untold content offset before now paths shows.answers shows.asked
-      (is_absent_end (list_any is_failed (asked_findings offset paths shows.answers)) (list_any is_absent (asked_findings offset paths shows.answers)) (ap (λ (r : Report). r.end) (sym shows.is) ∙ is))
+  shows_present : (content : Content) → Shows (Some content) before now offset raw marker names paths report → report.end ≡ ended.Absent → tells_files content paths ≡ false
+  shows_present content shows is =
+      absent_present content offset before now paths shows.answers shows.asked
+      (is_absent_end (list_any is_failed (asked_findings offset paths shows.answers)) (list_any is_absent (asked_findings offset paths shows.answers)) (ap (λ (r : FileReport). r.end) (sym shows.is) ∙ is))
 
-  pub shows_absent : (told : Option Content) → Shows told before now offset raw marker names paths report → IfSome told (λ content. report.end ≡ ended.Absent → tells_files content paths ≡ false)
+  pub shows_absent : (known : Option Content) → Shows known before now offset raw marker names paths report → IfSome known (λ content. report.end ≡ ended.Absent → tells_files content paths ≡ false)
   shows_absent None shows = tt
-  shows_absent (Some content) shows = shows_untold content shows
+  shows_absent (Some content) shows = shows_present content shows
 
-  pub shows_complete : (told : Option Content) → Shows told before now offset raw marker names paths report
-      → IfSome told (λ content. tells_files content paths ≡ true → ¬ (Rose before now) → report.end ≡ ended.Ok)
+  pub shows_complete : (known : Option Content) → Shows known before now offset raw marker names paths report
+      → IfSome known (λ content. tells_files content paths ≡ true → ¬ (Rose before now) → report.end ≡ ended.Ok)
   shows_complete None shows = tt
-  shows_complete (Some content) shows = λ told quiet. complete_end before now report.end (tells_files content paths) (shows_cause (Some content) shows) (shows_untold content shows) told quiet
+  shows_complete (Some content) shows = λ known quiet. complete_end before now report.end (tells_files content paths) (shows_cause (Some content) shows) (shows_present content shows) known quiet
 
-module _ (before now : ℕ) (offset : ℤ) (paths : List PathBytes) (report : Report) where
-  pub imports_cause : (told : Option Content) → Imports told before now offset paths report → EndHasCause before now report.end
-  imports_cause told imports =
+module _ (before now : ℕ) (offset : ℤ) (paths : List PathBytes) (report : FileReport) where
+  pub imports_cause : (known : Option Content) → Imports known before now offset paths report → EndHasCause before now report.end
+  imports_cause known imports =
       rw imports.is
       (cause_by before now (all_failures imports.found) (list_any is_failed (all_findings offset paths imports.found)) (list_any is_absent (all_findings offset paths imports.found))
-      (are_found_counted told before now paths imports.found imports.asked) (all_tells offset told before now paths imports.found imports.asked))
+      (are_found_counted known before now paths imports.found imports.asked) (all_tells offset known before now paths imports.found imports.asked))
 
-  imports_untold : (content : Content) → Imports (Some content) before now offset paths report → report.end ≡ ended.Absent → tells_all content paths ≡ false
-  imports_untold content imports is =
-      all_untold content offset before now paths imports.found imports.asked
-      (is_absent_end (list_any is_failed (all_findings offset paths imports.found)) (list_any is_absent (all_findings offset paths imports.found)) (ap (λ (r : Report). r.end) (sym imports.is) ∙ is))
+  imports_present : (content : Content) → Imports (Some content) before now offset paths report → report.end ≡ ended.Absent → tells_all content paths ≡ false
+  imports_present content imports is =
+      all_present content offset before now paths imports.found imports.asked
+      (is_absent_end (list_any is_failed (all_findings offset paths imports.found)) (list_any is_absent (all_findings offset paths imports.found)) (ap (λ (r : FileReport). r.end) (sym imports.is) ∙ is))
 
-  pub imports_absent : (told : Option Content) → Imports told before now offset paths report → IfSome told (λ content. report.end ≡ ended.Absent → tells_all content paths ≡ false)
+  pub imports_absent : (known : Option Content) → Imports known before now offset paths report → IfSome known (λ content. report.end ≡ ended.Absent → tells_all content paths ≡ false)
   imports_absent None imports = tt
-  imports_absent (Some content) imports = imports_untold content imports
+  imports_absent (Some content) imports = imports_present content imports
 
-  pub imports_complete : (told : Option Content) → Imports told before now offset paths report
-      → IfSome told (λ content. tells_all content paths ≡ true → ¬ (Rose before now) → report.end ≡ ended.Ok)
+  pub imports_complete : (known : Option Content) → Imports known before now offset paths report
+      → IfSome known (λ content. tells_all content paths ≡ true → ¬ (Rose before now) → report.end ≡ ended.Ok)
   imports_complete None imports = tt
-  imports_complete (Some content) imports = λ told quiet. complete_end before now report.end (tells_all content paths) (imports_cause (Some content) imports) (imports_untold content imports) told quiet
+  imports_complete (Some content) imports = λ known quiet. complete_end before now report.end (tells_all content paths) (imports_cause (Some content) imports) (imports_present content imports) known quiet
 
-module _ (offset : ℤ) (entries : List Entry) (answers : List Answer) where
+module _ (offset : ℤ) (entries : List Entry) (answers : List FileAnswer) where
   -- the files of a listing that failed are counted
-  pub read_cause : (told : Option Content) (before now : ℕ) → AreRead told before now entries answers → EndHasCause before now (end_of (read_findings offset entries answers))
-  read_cause told before now asked =
+  pub read_cause : (known : Option Content) (before now : ℕ) → AreRead known before now entries answers → EndHasCause before now (end_of (read_findings offset entries answers))
+  read_cause known before now asked =
       cause_by before now (failures answers) (list_any is_failed (read_findings offset entries answers)) (list_any is_absent (read_findings offset entries answers))
-      (turn_counted (IsRead told) (read_counted told) before now entries answers asked) (read_tells offset told before now entries answers asked)
+      (turn_counted (IsRead known) (read_counted known) before now entries answers asked) (read_tells offset known before now entries answers asked)
 
   -- and none of them is a named path
   pub read_there : end_of (read_findings offset entries answers) ≡ ended.Absent → ⊥

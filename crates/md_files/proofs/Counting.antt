@@ -4,10 +4,10 @@ use Rattle.std.proofs.lemmas.List.Sums.{sum_by-append}
 use Rattle.md_value.specs.Values.{PathBytes}
 use Rattle.md_source.specs.Tree.{Content}
 use Rattle.md_source.specs.declared.tree.Entry.{Entry}
-use Rattle.md_files.specs.Answers.{Answer, IsAsked, IsRead, InTurn, AreAsked, Fails, IsCounted, has_failed, failures}
-use Rattle.md_files.specs.Answers.Answer.{given, absent, failed}
-use Rattle.md_files.specs.Folders.{Found, IsFound, AreFound, found_failures, all_failures}
-use Rattle.md_files.specs.Folders.Found.{file, unfound, folder, unlisted, nothing}
+use Rattle.md_files.specs.Answers.{FileAnswer, IsAsked, IsRead, InTurn, AreAsked, Fails, IsCounted, has_failed, failures}
+use Rattle.md_files.specs.Answers.FileAnswer.{given, absent, failed}
+use Rattle.md_files.specs.Folders.{PathResult, IsFound, AreFound, found_failures, all_failures}
+use Rattle.md_files.specs.Folders.PathResult.{file, unfound, folder, unlisted, nothing}
 
 -- the same with any end of the counts
 record IsCountedTo (most before now count : ℕ) : Type 0 where
@@ -40,22 +40,22 @@ counted_same before now same = record { later = omega arith; rose = least (2 ^ 6
 pub counted_failed : (before now : ℕ) → Fails before now → IsCounted before now 1
 counted_failed before now fails = record { later = fails.0; rose = fails.1; kept = λ none. absurd (omega arith) }
 
-pub asked_counted : (told : Option Content) (before now : ℕ) (path : PathBytes) (answer : Answer) → IsAsked told before now path answer → IsCounted before now (failures (answer ∷ []))
-asked_counted told before now path (given entry bytes) asked = counted_same before now asked.0
-asked_counted told before now path absent asked = counted_same before now asked.0
-asked_counted told before now path failed asked = counted_failed before now asked
+pub asked_counted : (known : Option Content) (before now : ℕ) (path : PathBytes) (answer : FileAnswer) → IsAsked known before now path answer → IsCounted before now (failures (answer ∷ []))
+asked_counted known before now path (given entry bytes) asked = counted_same before now asked.0
+asked_counted known before now path absent asked = counted_same before now asked.0
+asked_counted known before now path failed asked = counted_failed before now asked
 
-pub read_counted : (told : Option Content) (before now : ℕ) (entry : Entry) (answer : Answer) → IsRead told before now entry answer → IsCounted before now (failures (answer ∷ []))
-read_counted told before now entry (given e bytes) asked = counted_same before now asked.0
-read_counted told before now entry absent asked = counted_same before now asked.0
-read_counted told before now entry failed asked = counted_failed before now asked.0
+pub read_counted : (known : Option Content) (before now : ℕ) (entry : Entry) (answer : FileAnswer) → IsRead known before now entry answer → IsCounted before now (failures (answer ∷ []))
+read_counted known before now entry (given e bytes) asked = counted_same before now asked.0
+read_counted known before now entry absent asked = counted_same before now asked.0
+read_counted known before now entry failed asked = counted_failed before now asked.0
 
-pub first_failures : (answer : Answer) (answers : List Answer) → failures (answer ∷ []) + failures answers ≡ failures (answer ∷ answers)
-first_failures answer answers = sym (sum_by-append (λ (a : Answer). cond (has_failed a) 1 0) (answer ∷ []) answers)
+pub first_failures : (answer : FileAnswer) (answers : List FileAnswer) → failures (answer ∷ []) + failures answers ≡ failures (answer ∷ answers)
+first_failures answer answers = sym (sum_by-append (λ (a : FileAnswer). cond (has_failed a) 1 0) (answer ∷ []) answers)
 
 -- askings in turn, each counted
-pub turn_counted : {A : Type 0} (Asks : ℕ → ℕ → A → Answer → Type 0) → ((before now : ℕ) (x : A) (answer : Answer) → Asks before now x answer → IsCounted before now (failures (answer ∷ [])))
-    → (before now : ℕ) (xs : List A) (answers : List Answer) → InTurn Asks before now xs answers → IsCounted before now (failures answers)
+pub turn_counted : {A : Type 0} (Asks : ℕ → ℕ → A → FileAnswer → Type 0) → ((before now : ℕ) (x : A) (answer : FileAnswer) → Asks before now x answer → IsCounted before now (failures (answer ∷ [])))
+    → (before now : ℕ) (xs : List A) (answers : List FileAnswer) → InTurn Asks before now xs answers → IsCounted before now (failures answers)
 turn_counted Asks each before now [] [] kept = counted_same before now kept
 turn_counted Asks each before now [] (answer ∷ answers) none = absurd none
 turn_counted Asks each before now (x ∷ xs) [] none = absurd none
@@ -63,19 +63,19 @@ turn_counted Asks each before now (x ∷ xs) (answer ∷ answers) turn =
     rw (sym (first_failures answer answers))
     (counted_then before turn.0 now (failures (answer ∷ [])) (failures answers) (each before turn.0 x answer turn.1) (turn_counted Asks each turn.0 now xs answers turn.2))
 
-pub are_asked_counted : (told : Option Content) (before now : ℕ) (paths : List PathBytes) (answers : List Answer) → AreAsked told before now paths answers → IsCounted before now (failures answers)
-are_asked_counted told = turn_counted (IsAsked told) (asked_counted told)
+pub are_asked_counted : (known : Option Content) (before now : ℕ) (paths : List PathBytes) (answers : List FileAnswer) → AreAsked known before now paths answers → IsCounted before now (failures answers)
+are_asked_counted known = turn_counted (IsAsked known) (asked_counted known)
 
-pub found_counted : (told : Option Content) (before now : ℕ) (path : PathBytes) (found : Found) → IsFound told before now path found → IsCounted before now (found_failures found)
-found_counted told before now path (file answer) asked = read_counted told before now asked.0 answer asked.2
-found_counted told before now path unfound asked = counted_failed before now asked
-found_counted told before now path (folder entries answers) asked = turn_counted (IsRead told) (read_counted told) before now entries answers asked.2
-found_counted told before now path unlisted asked = counted_failed before now asked.1
-found_counted told before now path nothing asked = counted_same before now asked.0
+pub found_counted : (known : Option Content) (before now : ℕ) (path : PathBytes) (found : PathResult) → IsFound known before now path found → IsCounted before now (found_failures found)
+found_counted known before now path (file answer) asked = read_counted known before now asked.0 answer asked.2
+found_counted known before now path unfound asked = counted_failed before now asked
+found_counted known before now path (folder entries answers) asked = turn_counted (IsRead known) (read_counted known) before now entries answers asked.2
+found_counted known before now path unlisted asked = counted_failed before now asked.1
+found_counted known before now path nothing asked = counted_same before now asked.0
 
-pub are_found_counted : (told : Option Content) (before now : ℕ) (paths : List PathBytes) (found : List Found) → AreFound told before now paths found → IsCounted before now (all_failures found)
-are_found_counted told before now [] [] kept = counted_same before now kept
-are_found_counted told before now [] (f ∷ found) none = absurd none
-are_found_counted told before now (path ∷ paths) [] none = absurd none
-are_found_counted told before now (path ∷ paths) (f ∷ found) turn =
-    counted_then before turn.0 now (found_failures f) (all_failures found) (found_counted told before turn.0 path f turn.1) (are_found_counted told turn.0 now paths found turn.2)
+pub are_found_counted : (known : Option Content) (before now : ℕ) (paths : List PathBytes) (found : List PathResult) → AreFound known before now paths found → IsCounted before now (all_failures found)
+are_found_counted known before now [] [] kept = counted_same before now kept
+are_found_counted known before now [] (f ∷ found) none = absurd none
+are_found_counted known before now (path ∷ paths) [] none = absurd none
+are_found_counted known before now (path ∷ paths) (f ∷ found) turn =
+    counted_then before turn.0 now (found_failures f) (all_failures found) (found_counted known before turn.0 path f turn.1) (are_found_counted known turn.0 now paths found turn.2)

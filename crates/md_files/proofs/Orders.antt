@@ -41,9 +41,9 @@ ascends xs ys apart moved sorted i j d below within =
     (sorted_far path_before strict ys sorted i j d (omega arith) within)
 
 -- the files below a folder stay those when they are sorted
-pub listed : (told : Option Content) (folder : PathBytes) (xs ys : List Entry) → IsListing folder xs → IfSome told (λ content. has_folder content.folders folder ≡ true)
-    → IfSome told (λ content. IsPermutation (entries_below content.files folder) xs) → IsPermutation xs ys → AllPairs (λ entry other. is_before entry.path other.path ≡ true) ys → IsListed told folder ys
-listed told folder xs ys listing is_folder known moved ordered =
+pub listed : (known : Option Content) (folder : PathBytes) (xs ys : List Entry) → IsListing folder xs → IfSome known (λ content. has_folder content.folders folder ≡ true)
+    → IfSome known (λ content. IsPermutation (entries_below content.files folder) xs) → IsPermutation xs ys → AllPairs (λ entry other. is_before entry.path other.path ≡ true) ys → IsListed known folder ys
+listed known folder xs ys listing is_folder agrees moved ordered =
     record {
       listing =
           record {
@@ -54,12 +54,12 @@ listed told folder xs ys listing is_folder known moved ordered =
           };
       ordered = ordered;
       folder = is_folder;
-      known = known_moved told known;
+      agrees = agrees_moved known agrees;
     }
   where
     before_differs : (p q : List ℕ) → is_before p q ≡ true → p ≢ q
     before_differs p q before same = true≢false (sym before ∙ ap (is_before p) (sym same) ∙ itself_not_before p)
 
-    known_moved : (o : Option Content) → IfSome o (λ content. IsPermutation (entries_below content.files folder) xs) → IfSome o (λ content. IsPermutation (entries_below content.files folder) ys)
-    known_moved None is = tt
-    known_moved (Some content) is = IsPermutation-trans _ xs ys is moved
+    agrees_moved : (o : Option Content) → IfSome o (λ content. IsPermutation (entries_below content.files folder) xs) → IfSome o (λ content. IsPermutation (entries_below content.files folder) ys)
+    agrees_moved None is = tt
+    agrees_moved (Some content) is = IsPermutation-trans _ xs ys is moved

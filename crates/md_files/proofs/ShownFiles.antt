@@ -8,13 +8,13 @@ use Rattle.md_value.specs.Attrs.{Attr}
 use Rattle.md_value.specs.Values.{PathBytes}
 use Rattle.md_source.specs.Tree.{Content}
 use Rattle.md_print.specs.Attributes.{attrs_text}
-use Rattle.md_files.specs.Answers.{Answer, IsAsked, AreAsked, Gives, outcome}
+use Rattle.md_files.specs.Answers.{FileAnswer, IsAsked, AreAsked, Gives, outcome}
 use Rattle.md_files.specs.Findings.{Finding, asked_findings, err_line, separator, shown_text, given_attrs, attrs_of}
 use Rattle.md_files.specs.Findings.Finding.{named}
-use Rattle.md_files.specs.Reports.{Report, Shows, report_of, shown}
+use Rattle.md_files.specs.Reports.{FileReport, Shows, report_of, shown}
 use Rattle.md_files.specs.Additions.{no_report, noted, next_text}
-use Rattle.md_files.specs.declared.asking.Asked.{Asked}
-use Rattle.md_files.specs.declared.asking.Asked.TheVariants as asked
+use Rattle.md_files.specs.declared.asking.ImportResult.{ImportResult}
+use Rattle.md_files.specs.declared.asking.ImportResult.TheVariants as asked
 use Rattle.md_files.proofs.Additions.{end_of-append}
 use Rattle.md_files.proofs.Turns.{in_turn_more, zip_more}
 
@@ -44,59 +44,59 @@ module _ (raw : Bool) (marker : List ℕ) (names : List (List ℕ)) where
   joined_more all attrs = rw (separator_by (has_some all) raw, join_by_more (λ a. attrs_text a names raw marker) (separator raw) all attrs) refl
 
   -- the text with that of one file more
-  text_more : (fs : List Finding) (path : PathBytes) (given : Asked) → shown_text raw marker names fs ++ next_text (has_some (filter_map attrs_of fs)) raw marker names given
+  text_more : (fs : List Finding) (path : PathBytes) (given : ImportResult) → shown_text raw marker names fs ++ next_text (has_some (filter_map attrs_of fs)) raw marker names given
       ≡ shown_text raw marker names (fs ++ named path given ∷ [])
   text_more fs path (asked.Attrs attrs) = rw (filter_map-append attrs_of fs (named path (asked.Attrs attrs) ∷ [])) (joined_more (filter_map attrs_of fs) attrs)
   text_more fs path (asked.Fault fault) = rw (filter_map-append attrs_of fs (named path (asked.Fault fault) ∷ []), append-nil (filter_map attrs_of fs)) (append-nil _)
   text_more fs path asked.Absent = rw (filter_map-append attrs_of fs (named path asked.Absent ∷ []), append-nil (filter_map attrs_of fs)) (append-nil _)
   text_more fs path asked.Failed = rw (filter_map-append attrs_of fs (named path asked.Failed ∷ []), append-nil (filter_map attrs_of fs)) (append-nil _)
 
-  report_more : (fs : List Finding) (path : PathBytes) (given : Asked) →
+  report_more : (fs : List Finding) (path : PathBytes) (given : ImportResult) →
       noted (record (report_of (shown_text raw marker names fs) fs) { out = shown_text raw marker names fs ++ next_text (has_some (filter_map attrs_of fs)) raw marker names given }) (named path given)
       ≡ report_of (shown_text raw marker names (fs ++ named path given ∷ [])) (fs ++ named path given ∷ [])
   report_more fs path given =
       rw (text_more fs path given, end_of-append fs (named path given ∷ []), flat_map-append err_line fs (named path given ∷ []), append-nil (err_line (named path given))) refl
 
-some_more : (fs : List Finding) (path : PathBytes) (given : Asked) → (has_some (filter_map attrs_of fs) || is_some (given_attrs given)) ≡ has_some (filter_map attrs_of (fs ++ named path given ∷ []))
+some_more : (fs : List Finding) (path : PathBytes) (given : ImportResult) → (has_some (filter_map attrs_of fs) || is_some (given_attrs given)) ≡ has_some (filter_map attrs_of (fs ++ named path given ∷ []))
 some_more fs path given = rw (filter_map-append attrs_of fs (named path given ∷ []), has_some-append (filter_map attrs_of fs) (filter_map attrs_of (named path given ∷ []))) (ap (λ b. has_some (filter_map attrs_of fs) || b) (one given))
   where
-    one : (given : Asked) → is_some (given_attrs given) ≡ has_some (filter_map attrs_of (named path given ∷ []))
+    one : (given : ImportResult) → is_some (given_attrs given) ≡ has_some (filter_map attrs_of (named path given ∷ []))
     one (asked.Attrs attrs) = refl
     one (asked.Fault fault) = refl
     one asked.Absent = refl
     one asked.Failed = refl
 
 -- some files were shown, and some of them gave attributes or none did
-pub record IsShowing (told : Option Content) (before now : ℕ) (offset : ℤ) (raw : Bool) (marker : List ℕ) (names : List (List ℕ)) (paths : List PathBytes) (report : Report) (some : Bool) : Type 0 where
-  pub answers : List Answer
-  pub asked : AreAsked told before now paths answers
+pub record IsShowing (known : Option Content) (before now : ℕ) (offset : ℤ) (raw : Bool) (marker : List ℕ) (names : List (List ℕ)) (paths : List PathBytes) (report : FileReport) (some : Bool) : Type 0 where
+  pub answers : List FileAnswer
+  pub asked : AreAsked known before now paths answers
   pub is : report ≡ shown offset raw marker names paths answers
   pub some_is : some ≡ has_some (filter_map attrs_of (asked_findings offset paths answers))
 
-pub shows_so : {told : Option Content} {before now : ℕ} {offset : ℤ} {raw : Bool} {marker : List ℕ} {names : List (List ℕ)} {paths : List PathBytes} {report : Report} {some : Bool} →
-    IsShowing told before now offset raw marker names paths report some → Shows told before now offset raw marker names paths report
+pub shows_so : {known : Option Content} {before now : ℕ} {offset : ℤ} {raw : Bool} {marker : List ℕ} {names : List (List ℕ)} {paths : List PathBytes} {report : FileReport} {some : Bool} →
+    IsShowing known before now offset raw marker names paths report some → Shows known before now offset raw marker names paths report
 shows_so so = record { answers = so.answers; asked = so.asked; is = so.is }
 
-module _ (told : Option Content) (before : ℕ) (offset : ℤ) (raw : Bool) (marker : List ℕ) (names : List (List ℕ)) where
-  pub showing_none : IsShowing told before before offset raw marker names [] no_report false
+module _ (known : Option Content) (before : ℕ) (offset : ℤ) (raw : Bool) (marker : List ℕ) (names : List (List ℕ)) where
+  pub showing_none : IsShowing known before before offset raw marker names [] no_report false
   showing_none = record { answers = []; asked = refl; is = refl; some_is = refl }
 
-  findings_more : (between : ℕ) (paths : List PathBytes) (answers : List Answer) (path : PathBytes) (answer : Answer) → AreAsked told before between paths answers
+  findings_more : (between : ℕ) (paths : List PathBytes) (answers : List FileAnswer) (path : PathBytes) (answer : FileAnswer) → AreAsked known before between paths answers
       → asked_findings offset (paths ++ path ∷ []) (answers ++ answer ∷ []) ≡ asked_findings offset paths answers ++ named path (outcome offset answer) ∷ []
   findings_more between paths answers path answer turn =
-      ap (map (λ (pair : PathBytes × Answer). named pair.0 (outcome offset pair.1))) (zip_more (IsAsked told) before between paths answers path answer turn)
-      ∙ map-append (λ (pair : PathBytes × Answer). named pair.0 (outcome offset pair.1)) (zip paths answers) ((path, answer) ∷ [])
+      ap (map (λ (pair : PathBytes × FileAnswer). named pair.0 (outcome offset pair.1))) (zip_more (IsAsked known) before between paths answers path answer turn)
+      ∙ map-append (λ (pair : PathBytes × FileAnswer). named pair.0 (outcome offset pair.1)) (zip paths answers) ((path, answer) ∷ [])
 
   -- with one file more
-  pub showing_more : (between now : ℕ) (paths : List PathBytes) (report : Report) (some : Bool) (path : PathBytes) (given : Asked) → IsShowing told before between offset raw marker names paths report some
-      → Gives (IsAsked told between now path) offset given
-      → IsShowing told before now offset raw marker names (paths ++ path ∷ []) (noted (record report { out = report.out ++ next_text some raw marker names given }) (named path given)) (some || is_some (given_attrs given))
+  pub showing_more : (between now : ℕ) (paths : List PathBytes) (report : FileReport) (some : Bool) (path : PathBytes) (given : ImportResult) → IsShowing known before between offset raw marker names paths report some
+      → Gives (IsAsked known between now path) offset given
+      → IsShowing known before now offset raw marker names (paths ++ path ∷ []) (noted (record report { out = report.out ++ next_text some raw marker names given }) (named path given)) (some || is_some (given_attrs given))
   showing_more between now paths report some path given so gives =
       let fs = asked_findings offset paths so.answers in
       let more = findings_more between paths so.answers path gives.answer so.asked in
       record {
         answers = so.answers ++ gives.answer ∷ [];
-        asked = in_turn_more (IsAsked told) before between now paths so.answers path gives.answer so.asked gives.answers;
+        asked = in_turn_more (IsAsked known) before between now paths so.answers path gives.answer so.asked gives.answers;
         is = rw (so.is, so.some_is, gives.is, more) (report_more raw marker names fs path (outcome offset gives.answer));
         some_is = rw (so.some_is, gives.is, more) (some_more fs path (outcome offset gives.answer));
       }

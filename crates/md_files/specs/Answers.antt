@@ -8,14 +8,14 @@ use Rattle.md_source.specs.Tree.{Content, file_at, entry_at, bytes_at}
 use Rattle.md_source.specs.declared.tree.Entry.{Entry}
 use Rattle.imp_kind.specs.Kinds.{kind_of, is_imported}
 use Rattle.imp_kind.specs.Imports.{import, most_bytes}
-use Rattle.md_files.specs.declared.asking.Asked.{Asked}
-use Rattle.md_files.specs.declared.asking.Asked.TheVariants as asked
+use Rattle.md_files.specs.declared.asking.ImportResult.{ImportResult}
+use Rattle.md_files.specs.declared.asking.ImportResult.TheVariants as asked
 
 -- an answer to the asking of a file: its entry with its bytes, or that it is absent, or that a call failed
-pub data Answer : Type 0 where
-  given : Entry → List ℕ → Answer
-  absent : Answer
-  failed : Answer
+pub data FileAnswer : Type 0 where
+  given : Entry → List ℕ → FileAnswer
+  absent : FileAnswer
+  failed : FileAnswer
 
 -- whether the bytes of a file are read: no importer looks at those of another kind
 abbrev pub is_read : PathBytes → Bool
@@ -29,33 +29,33 @@ most_read = most_bytes + 1
 abbrev pub Fails : ℕ → ℕ → Type 0
 Fails before now = (before ≤ now) × Rose before now
 
--- an entry of the path; where the content is told, that of its file
-pub record IsEntry (told : Option Content) (path : PathBytes) (entry : Entry) : Type 0 where
+-- an entry of the path; where the content is known, that of its file
+pub record IsEntry (known : Option Content) (path : PathBytes) (entry : Entry) : Type 0 where
   pub named : entry.path ≡ path
   pub moment : IsMoment entry.changed
-  pub known : IfSome told (λ content. entry_at content.files path ≡ Some entry)
+  pub agrees : IfSome known (λ content. entry_at content.files path ≡ Some entry)
 
--- the bytes that are read of a file: none where they are not read; where the content is told, the first of its file
-pub record IsFront (told : Option Content) (path : PathBytes) (bytes : List ℕ) : Type 0 where
+-- the bytes that are read of a file: none where they are not read; where the content is known, the first of its file
+pub record IsPrefix (known : Option Content) (path : PathBytes) (bytes : List ℕ) : Type 0 where
   pub most : length bytes ≤ most_read
   pub unread : is_read path ≡ false → bytes ≡ []
-  pub known : is_read path ≡ true → IfSome told (λ content. bytes_at content.files path most_read ≡ Some bytes)
+  pub agrees : is_read path ≡ true → IfSome known (λ content. bytes_at content.files path most_read ≡ Some bytes)
 
--- where the content is told, no file has the path
+-- where the content is known, no file has the path
 abbrev pub HasNoFile : Option Content → PathBytes → Type 0
-HasNoFile told path = IfSome told (λ content. file_at content.files path ≡ None)
+HasNoFile known path = IfSome known (λ content. file_at content.files path ≡ None)
 
 -- the answer to the asking of a file by its path
-abbrev pub IsAsked : Option Content → ℕ → ℕ → PathBytes → Answer → Type 0
-IsAsked told before now path (given entry bytes) = (now ≡ before) × IsEntry told path entry × IsFront told path bytes
-IsAsked told before now path absent = (now ≡ before) × HasNoFile told path
-IsAsked told before now path failed = Fails before now
+abbrev pub IsAsked : Option Content → ℕ → ℕ → PathBytes → FileAnswer → Type 0
+IsAsked known before now path (given entry bytes) = (now ≡ before) × IsEntry known path entry × IsPrefix known path bytes
+IsAsked known before now path absent = (now ≡ before) × HasNoFile known path
+IsAsked known before now path failed = Fails before now
 
 -- the answer to the asking of a file whose entry is known; one that is not read is given with no call
-abbrev pub IsRead : Option Content → ℕ → ℕ → Entry → Answer → Type 0
-IsRead told before now entry (given found bytes) = (now ≡ before) × (found ≡ entry) × IsFront told entry.path bytes
-IsRead told before now entry absent = (now ≡ before) × (is_read entry.path ≡ true) × HasNoFile told entry.path
-IsRead told before now entry failed = Fails before now × (is_read entry.path ≡ true)
+abbrev pub IsRead : Option Content → ℕ → ℕ → Entry → FileAnswer → Type 0
+IsRead known before now entry (given found bytes) = (now ≡ before) × (found ≡ entry) × IsPrefix known entry.path bytes
+IsRead known before now entry absent = (now ≡ before) × (is_read entry.path ≡ true) × HasNoFile known entry.path
+IsRead known before now entry failed = Fails before now × (is_read entry.path ≡ true)
 
 -- askings in turn, each from the count of faults at which the one before it ended
 abbrev pub InTurn : {A B : Type 0} → (ℕ → ℕ → A → B → Type 0) → ℕ → ℕ → List A → List B → Type 0
@@ -64,33 +64,33 @@ InTurn Asks before now (x ∷ xs) (y ∷ ys) = (between : ℕ) × Asks before be
 InTurn Asks before now _ _ = ⊥
 
 -- the answers to the askings of files by their paths
-abbrev pub AreAsked : Option Content → ℕ → ℕ → List PathBytes → List Answer → Type 0
-AreAsked told before now paths answers = InTurn (IsAsked told) before now paths answers
+abbrev pub AreAsked : Option Content → ℕ → ℕ → List PathBytes → List FileAnswer → Type 0
+AreAsked known before now paths answers = InTurn (IsAsked known) before now paths answers
 
 -- what an import gives
-abbrev pub of_import : Result (List Attr) Fault → Asked
+abbrev pub of_import : Result (List Attr) Fault → ImportResult
 of_import (Ok attrs) = asked.Attrs attrs
 of_import (Err fault) = asked.Fault fault
 
 -- what an answer gives: the import of the file, with a date alone in an offset from UTC in minutes
-abbrev pub outcome : ℤ → Answer → Asked
+abbrev pub outcome : ℤ → FileAnswer → ImportResult
 outcome offset (given entry bytes) = of_import (import entry bytes offset)
 outcome offset absent = asked.Absent
 outcome offset failed = asked.Failed
 
 -- it is what one of these answers gives
-pub record Gives (Answers : Answer → Type 0) (offset : ℤ) (result : Asked) : Type 0 where
-  pub answer : Answer
+pub record Gives (Answers : FileAnswer → Type 0) (offset : ℤ) (result : ImportResult) : Type 0 where
+  pub answer : FileAnswer
   pub answers : Answers answer
   pub is : result ≡ outcome offset answer
 
 -- whether an asking failed
-abbrev pub has_failed : Answer → Bool
+abbrev pub has_failed : FileAnswer → Bool
 has_failed failed = true
 has_failed _ = false
 
 -- how many askings failed
-abbrev pub failures : List Answer → ℕ
+abbrev pub failures : List FileAnswer → ℕ
 failures answers = count_by has_failed answers
 
 -- so many askings failed: the count of faults rose by no less, unless it stands at its type's end, and stands where none failed

@@ -9,48 +9,48 @@ use Rattle.md_print.specs.Attributes.{attrs_text}
 use Rattle.md_print.specs.Faults.{fault_text, failure_text}
 use Rattle.md_print.specs.Paths.{escaped}
 use Rattle.md_print.specs.declared.faults.Failure.TheVariants as failure
-use Rattle.md_files.specs.Answers.{Answer, outcome}
-use Rattle.md_files.specs.Folders.{Found}
-use Rattle.md_files.specs.Folders.Found.{file, unfound, folder, unlisted, nothing}
-use Rattle.md_files.specs.declared.asking.Asked.{Asked}
-use Rattle.md_files.specs.declared.asking.Asked.TheVariants as asked
+use Rattle.md_files.specs.Answers.{FileAnswer, outcome}
+use Rattle.md_files.specs.Folders.{PathResult}
+use Rattle.md_files.specs.Folders.PathResult.{file, unfound, folder, unlisted, nothing}
+use Rattle.md_files.specs.declared.asking.ImportResult.{ImportResult}
+use Rattle.md_files.specs.declared.asking.ImportResult.TheVariants as asked
 use Rattle.md_files.specs.declared.report.End.{End}
 use Rattle.md_files.specs.declared.report.End.TheVariants as ended
 
 -- what became of a path that was named, or of a file of a listing; or a folder that could not be listed
 pub data Finding : Type 0 where
-  named : PathBytes → Asked → Finding
-  listed : PathBytes → Asked → Finding
+  named : PathBytes → ImportResult → Finding
+  listed : PathBytes → ImportResult → Finding
   no_listing : PathBytes → Finding
 
 -- of files that were asked for by their paths
-abbrev pub asked_findings : ℤ → List PathBytes → List Answer → List Finding
+abbrev pub asked_findings : ℤ → List PathBytes → List FileAnswer → List Finding
 asked_findings offset paths answers = map (λ pair. named pair.0 (outcome offset pair.1)) (zip paths answers)
 
 -- of the files of a listing
-abbrev pub read_findings : ℤ → List Entry → List Answer → List Finding
+abbrev pub read_findings : ℤ → List Entry → List FileAnswer → List Finding
 read_findings offset entries answers = map (λ pair. listed pair.0.path (outcome offset pair.1)) (zip entries answers)
 
 -- of what a path stands for
-abbrev pub found_findings : ℤ → PathBytes → Found → List Finding
+abbrev pub found_findings : ℤ → PathBytes → PathResult → List Finding
 found_findings offset path (file answer) = named path (outcome offset answer) ∷ []
 found_findings offset path unfound = named path asked.Failed ∷ []
 found_findings offset path (folder entries answers) = read_findings offset entries answers
 found_findings offset path unlisted = no_listing path ∷ []
 found_findings offset path nothing = named path asked.Absent ∷ []
 
-abbrev pub all_findings : ℤ → List PathBytes → List Found → List Finding
+abbrev pub all_findings : ℤ → List PathBytes → List PathResult → List Finding
 all_findings offset paths found = flat_map (λ pair. found_findings offset pair.0 pair.1) (zip paths found)
 
 -- the line for err on a file: none where it gives attributes
-abbrev pub asked_line : PathBytes → Asked → List ℕ
+abbrev pub asked_line : PathBytes → ImportResult → List ℕ
 asked_line path (asked.Attrs attrs) = []
 asked_line path (asked.Fault fault) = fault_text path fault
 asked_line path asked.Absent = failure_text path failure.NotFound
 asked_line path asked.Failed = failure_text path failure.NotRead
 
 -- that on a file of a listing, which is passed over where it is absent
-abbrev pub listed_line : PathBytes → Asked → List ℕ
+abbrev pub listed_line : PathBytes → ImportResult → List ℕ
 listed_line path asked.Absent = []
 listed_line path given = asked_line path given
 
@@ -76,7 +76,7 @@ abbrev pub end_of : List Finding → End
 end_of findings = if list_any is_failed findings then ended.Failed else if list_any is_absent findings then ended.Absent else ended.Ok
 
 -- the attributes that a file gives
-abbrev pub given_attrs : Asked → Option (List Attr)
+abbrev pub given_attrs : ImportResult → Option (List Attr)
 given_attrs (asked.Attrs attrs) = Some attrs
 given_attrs _ = None
 
@@ -99,7 +99,7 @@ abbrev pub count_text : PathBytes → List Attr → List ℕ
 count_text path attrs = escaped path ++ codes ": " ++ decimal (length attrs) ++ codes " attributes\n"
 
 -- such a line for a file that gives attributes
-abbrev pub asked_count : PathBytes → Asked → List ℕ
+abbrev pub asked_count : PathBytes → ImportResult → List ℕ
 asked_count path (asked.Attrs attrs) = count_text path attrs
 asked_count path _ = []
 

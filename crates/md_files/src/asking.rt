@@ -3,7 +3,7 @@ ghost use Rattle.std.specs.Prelude.{◌≡◌, ◌≤◌, true, false, IfOk, IsE
 ghost use Rattle.md_value.specs.Values.{IsMoment};
 ghost use Rattle.md_source.specs.Tree.{ReadHasCause};
 ghost use Rattle.imp_kind.specs.Imports as imports;
-ghost use Rattle.md_files.specs.Answers.{IsAsked, IsRead, IsFront, HasNoFile, Gives, is_read, of_import};
+ghost use Rattle.md_files.specs.Answers.{IsAsked, IsRead, IsPrefix, HasNoFile, Gives, is_read, of_import};
 
 use imp_kind::{FileKind, Imported, import, kind_of};
 use md_source::{Entry, ReadEnd, Tree};
@@ -15,7 +15,7 @@ const MOST_READ: usize = 16_777_217;
 
 /// What the asking of a file gives.
 #[derive(Debug, Drop)]
-pub enum Asked {
+pub enum ImportResult {
     Attrs(Attrs),
     /// The first thing that is wrong with the file.
     Fault(Fault),
@@ -28,8 +28,8 @@ pub enum Asked {
 /// The first bytes of a file, at most 16,777,217 of them, or none with no call where no importer looks at them.
 ///
 /// `Absent` comes where the tree has no file of this path, `Failed` where its call failed.
-pub fn read_front<T: Tree>(alloc: Global, tree: &mut T, path: &Path) -> Result<Vec<u8>, ReadEnd>
-    ensures front { IfOk result (λ bytes. IsFront (T.content tree.old) path.now bytes.items) }
+pub fn read_prefix<T: Tree>(alloc: Global, tree: &mut T, path: &Path) -> Result<Vec<u8>, ReadEnd>
+    ensures prefix { IfOk result (λ bytes. IsPrefix (T.content tree.old) path.now bytes.items) }
     ensures absent { IsErrOf result ReadEnd.Absent → HasNoFile (T.content tree.old) path.now }
     ensures read_absent { IsErrOf result ReadEnd.Absent → is_read path.now ≡ true }
     ensures read_failed { IsErrOf result ReadEnd.Failed → is_read path.now ≡ true }
@@ -49,13 +49,13 @@ pub fn imported(
     entry: &Entry,
     bytes: &[u8],
     offset: i32,
-) -> Result<Asked, AllocError>
+) -> Result<ImportResult, AllocError>
     requires { IsMoment entry.now.changed }
     ensures { IfOk result (λ asked. asked ≡ of_import (imports.import entry.now bytes.now offset)) }
 {
     match import(alloc, entry, bytes, offset) {
-        Imported::Attrs(attrs) => Ok(Asked::Attrs(attrs)),
-        Imported::Fault(fault) => Ok(Asked::Fault(fault)),
+        Imported::Attrs(attrs) => Ok(ImportResult::Attrs(attrs)),
+        Imported::Fault(fault) => Ok(ImportResult::Fault(fault)),
         Imported::Memory => Err(AllocError),
     }
 }
@@ -66,16 +66,16 @@ pub(crate) fn read_file<T: Tree>(
     tree: &mut T,
     entry: &Entry,
     offset: i32,
-) -> Result<Asked, AllocError>
+) -> Result<ImportResult, AllocError>
     requires { IsMoment entry.now.changed }
     ensures asked { IfOk result (λ asked. Gives (IsRead (T.content tree.old) (T.faults tree.old) (T.faults tree.new) entry.now) offset asked) }
     ensures later { T.faults tree.old ≤ T.faults tree.new }
     ensures content { T.content tree.new ≡ T.content tree.old }
 {
-    match read_front(alloc, tree, &entry.path) {
+    match read_prefix(alloc, tree, &entry.path) {
         Ok(bytes) => imported(alloc, entry, &bytes, offset),
-        Err(ReadEnd::Absent) => Ok(Asked::Absent),
-        Err(ReadEnd::Failed) => Ok(Asked::Failed),
+        Err(ReadEnd::Absent) => Ok(ImportResult::Absent),
+        Err(ReadEnd::Failed) => Ok(ImportResult::Failed),
         Err(ReadEnd::Memory) => Err(AllocError),
     }
 }
@@ -90,15 +90,15 @@ pub fn ask_file<T: Tree>(
     tree: &mut T,
     path: &Path,
     offset: i32,
-) -> Result<Asked, AllocError>
+) -> Result<ImportResult, AllocError>
     ensures asked { IfOk result (λ asked. Gives (IsAsked (T.content tree.old) (T.faults tree.old) (T.faults tree.new) path.now) offset asked) }
     ensures later { T.faults tree.old ≤ T.faults tree.new }
     ensures content { T.content tree.new ≡ T.content tree.old }
 {
     match tree.find(alloc, path) {
         Ok(entry) => read_file(alloc, tree, &entry, offset),
-        Err(ReadEnd::Absent) => Ok(Asked::Absent),
-        Err(ReadEnd::Failed) => Ok(Asked::Failed),
+        Err(ReadEnd::Absent) => Ok(ImportResult::Absent),
+        Err(ReadEnd::Failed) => Ok(ImportResult::Failed),
         Err(ReadEnd::Memory) => Err(AllocError),
     }
 }

@@ -8,7 +8,7 @@ ghost use Rattle.md_files.specs.Reports.{Imports, EndHasCause, tells_all};
 ghost use Rattle.md_files.specs.Additions.{CountsFile, CountsFiles, CountsPath};
 
 use crate::asking::read_file;
-use crate::{Asked, End, Report};
+use crate::{End, FileReport, ImportResult};
 use md_print::escaped;
 use md_source::{Entry, ListEnd, ReadEnd, Tree};
 use md_value::Path;
@@ -17,13 +17,13 @@ use std::alloc::{AllocError, Global};
 // Appends the number of attributes that a file gives.
 fn push_count(
     alloc: Global,
-    report: &mut Report,
+    report: &mut FileReport,
     path: &Path,
-    asked: &Asked,
+    asked: &ImportResult,
 ) -> Result<(), AllocError>
     ensures { OnOk result (report.new ≡ record report.old { out = report.old.out ++ asked_count path.now asked.now }) }
 {
-    let Asked::Attrs(attrs) = asked else {
+    let ImportResult::Attrs(attrs) = asked else {
         return Ok(());
     };
     let path = escaped(alloc, path)?;
@@ -48,7 +48,7 @@ fn import_file<T: Tree>(
     tree: &mut T,
     offset: i32,
     entry: &Entry,
-    report: &mut Report,
+    report: &mut FileReport,
 ) -> Result<(), AllocError>
     requires { IsMoment entry.now.changed }
     ensures counts { OnOk result (CountsFile (T.content tree.old) (T.faults tree.old) (T.faults tree.new) offset entry.now report.old report.new) }
@@ -66,7 +66,7 @@ fn import_files<T: Tree>(
     tree: &mut T,
     offset: i32,
     entries: &[Entry],
-    report: &mut Report,
+    report: &mut FileReport,
 ) -> Result<(), AllocError>
     requires { All (λ entry. IsMoment entry.changed) entries.now }
     ensures counts { OnOk result (CountsFiles (T.content tree.old) (T.faults tree.old) (T.faults tree.new) offset entries.now report.old report.new) }
@@ -87,7 +87,7 @@ fn import_folder<T: Tree>(
     tree: &mut T,
     offset: i32,
     path: &Path,
-    report: &mut Report,
+    report: &mut FileReport,
 ) -> Result<(), AllocError>
     requires { HasNoFile (T.content tree.old) path.now }
     ensures counts { OnOk result (CountsPath (T.content tree.old) (T.faults tree.old) (T.faults tree.new) offset path.now report.old report.new) }
@@ -99,7 +99,7 @@ fn import_folder<T: Tree>(
             let entries = in_path_order(entries);
             import_files(alloc, tree, offset, &entries, report)
         }
-        Err(ListEnd::Absent) => report.add_named(alloc, path, &Asked::Absent),
+        Err(ListEnd::Absent) => report.add_named(alloc, path, &ImportResult::Absent),
         Err(ListEnd::Failed) => report.add_unlisted(alloc, path),
         Err(ListEnd::Memory) => Err(AllocError),
     }
@@ -111,7 +111,7 @@ fn import_path<T: Tree>(
     tree: &mut T,
     offset: i32,
     path: &Path,
-    report: &mut Report,
+    report: &mut FileReport,
 ) -> Result<(), AllocError>
     ensures counts { OnOk result (CountsPath (T.content tree.old) (T.faults tree.old) (T.faults tree.new) offset path.now report.old report.new) }
     ensures later { T.faults tree.old ≤ T.faults tree.new }
@@ -120,7 +120,7 @@ fn import_path<T: Tree>(
     match tree.find(alloc, path) {
         Ok(entry) => import_file(alloc, tree, offset, &entry, report),
         Err(ReadEnd::Absent) => import_folder(alloc, tree, offset, path, report),
-        Err(ReadEnd::Failed) => report.add_named(alloc, path, &Asked::Failed),
+        Err(ReadEnd::Failed) => report.add_named(alloc, path, &ImportResult::Failed),
         Err(ReadEnd::Memory) => Err(AllocError),
     }
 }
@@ -137,19 +137,19 @@ pub fn import<T: Tree>(
     tree: &mut T,
     offset: i32,
     files: &[Path],
-) -> Result<Report, AllocError>
+) -> Result<FileReport, AllocError>
     ensures imports { IfOk result (λ report. Imports (T.content tree.old) (T.faults tree.old) (T.faults tree.new) offset files.now report) }
     ensures cause { IfOk result (λ report. EndHasCause (T.faults tree.old) (T.faults tree.new) report.end) }
     ensures later { T.faults tree.old ≤ T.faults tree.new }
     ensures content { T.content tree.new ≡ T.content tree.old }
 
-    // Where the content is told.
+    // Where the content is known.
     ensures absent { IfOk result (λ report. IfSome (T.content tree.old) (λ content.
         report.end ≡ End.Absent → tells_all content files.now ≡ false)) }
     ensures complete { IfOk result (λ report. IfSome (T.content tree.old) (λ content.
         tells_all content files.now ≡ true → ¬ (Rose (T.faults tree.old) (T.faults tree.new)) → report.end ≡ End.Ok)) }
 {
-    let mut report = Report::new(alloc);
+    let mut report = FileReport::new(alloc);
     for path in files {
         import_path(alloc, tree, offset, path, &mut report)?;
     }

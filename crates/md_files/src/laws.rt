@@ -2,24 +2,24 @@
 ghost use Rattle.std.specs.Prelude.{[], ◌∷◌, ℕ, List, Option};
 ghost use Rattle.md_value.specs.Values.{PathBytes};
 ghost use Rattle.md_source.specs.Tree.{Content};
-ghost use Rattle.md_files.specs.Answers.{Answer, IsAsked, AreAsked, IsCounted, failures};
-ghost use Rattle.md_files.specs.Folders.{Found, AreFound, all_failures};
+ghost use Rattle.md_files.specs.Answers.{FileAnswer, IsAsked, AreAsked, IsCounted, failures};
+ghost use Rattle.md_files.specs.Folders.{PathResult, AreFound, all_failures};
 
 /// The asking of a file by its path failed only where the count of faults rose, which stands where it did not.
 pub fn an_asking_is_counted()
-    ensures { (told : Option Content) (before now : ℕ) (path : PathBytes) (answer : Answer)
-        → IsAsked told before now path answer → IsCounted before now (failures (answer ∷ [])) }
+    ensures { (known : Option Content) (before now : ℕ) (path : PathBytes) (answer : FileAnswer)
+        → IsAsked known before now path answer → IsCounted before now (failures (answer ∷ [])) }
 {}
 
 /// Of several, no more failed than the count of faults rose by, unless it stands at its type's end; and it stands where
 /// none failed.
 pub fn askings_are_counted()
-    ensures { (told : Option Content) (before now : ℕ) (paths : List PathBytes) (answers : List Answer)
-        → AreAsked told before now paths answers → IsCounted before now (failures answers) }
+    ensures { (known : Option Content) (before now : ℕ) (paths : List PathBytes) (answers : List FileAnswer)
+        → AreAsked known before now paths answers → IsCounted before now (failures answers) }
 {}
 
 /// So it is with the askings of paths that stand for files or folders.
 pub fn askings_of_folders_are_counted()
-    ensures { (told : Option Content) (before now : ℕ) (paths : List PathBytes) (found : List Found)
-        → AreFound told before now paths found → IsCounted before now (all_failures found) }
+    ensures { (known : Option Content) (before now : ℕ) (paths : List PathBytes) (found : List PathResult)
+        → AreFound known before now paths found → IsCounted before now (all_failures found) }
 {}

@@ -4,7 +4,7 @@ ghost use Rattle.md_print.specs.Faults.{fault_text, failure_text};
 ghost use Rattle.md_files.specs.Findings.Finding.{named, listed, no_listing};
 ghost use Rattle.md_files.specs.Additions.{no_report, worse, noted};
 
-use crate::Asked;
+use crate::ImportResult;
 use md_print::{Failure, failure_text, fault_text};
 use md_value::{Fault, Path};
 use std::alloc::{AllocError, Global};
@@ -23,17 +23,17 @@ pub enum End {
 
 /// How the askings of a tool ended, and what it prints.
 #[derive(Debug, Drop)]
-pub struct Report {
+pub struct FileReport {
     pub end: End,
     pub out: String,
     pub err: String,
 }
 
-impl Model for Report {
+impl Model for FileReport {
     ghost use Rattle.std.specs.Prelude.{string_bytes};
     ghost use Rattle.md_files.specs.Reports as reports;
 
-    ghost Value = { reports.Report };
+    ghost Value = { reports.FileReport };
 
     ghost view = { λ r. record { end = r.end; out = string_bytes r.out; err = string_bytes r.err } };
 }
@@ -49,12 +49,12 @@ fn worse(end: End, other: End) -> End
     }
 }
 
-impl Report {
+impl FileReport {
     /// Nothing asked and nothing printed. Takes no memory.
-    pub fn new(alloc: Global) -> Report
+    pub fn new(alloc: Global) -> FileReport
         ensures { result ≡ no_report }
     {
-        Report {
+        FileReport {
             end: End::Ok,
             out: String::new(alloc),
             err: String::new(alloc),
@@ -105,14 +105,19 @@ impl Report {
 
     /// Adds what became of a named file, but for the attributes that it gives: the end that it makes, and the line on err
     /// on a fault, a file that is absent or one that could not be read. Fails only where memory runs out.
-    pub fn add_named(&mut self, alloc: Global, path: &Path, asked: &Asked) -> Result<(), AllocError>
+    pub fn add_named(
+        &mut self,
+        alloc: Global,
+        path: &Path,
+        asked: &ImportResult,
+    ) -> Result<(), AllocError>
         ensures { OnOk result (self.new ≡ noted self.old (named path.now asked.now)) }
     {
         match asked {
-            Asked::Attrs(_) => Ok(()),
-            Asked::Fault(fault) => self.add_fault(alloc, path, fault),
-            Asked::Absent => self.add_failure(alloc, path, Failure::NotFound, End::Absent),
-            Asked::Failed => self.add_failure(alloc, path, Failure::NotRead, End::Failed),
+            ImportResult::Attrs(_) => Ok(()),
+            ImportResult::Fault(fault) => self.add_fault(alloc, path, fault),
+            ImportResult::Absent => self.add_failure(alloc, path, Failure::NotFound, End::Absent),
+            ImportResult::Failed => self.add_failure(alloc, path, Failure::NotRead, End::Failed),
         }
     }
 
@@ -122,14 +127,14 @@ impl Report {
         &mut self,
         alloc: Global,
         path: &Path,
-        asked: &Asked,
+        asked: &ImportResult,
     ) -> Result<(), AllocError>
         ensures { OnOk result (self.new ≡ noted self.old (listed path.now asked.now)) }
     {
         match asked {
-            Asked::Attrs(_) | Asked::Absent => Ok(()),
-            Asked::Fault(fault) => self.add_fault(alloc, path, fault),
-            Asked::Failed => self.add_failure(alloc, path, Failure::NotRead, End::Failed),
+            ImportResult::Attrs(_) | ImportResult::Absent => Ok(()),
+            ImportResult::Fault(fault) => self.add_fault(alloc, path, fault),
+            ImportResult::Failed => self.add_failure(alloc, path, Failure::NotRead, End::Failed),
         }
     }
 

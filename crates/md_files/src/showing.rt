@@ -5,14 +5,14 @@ ghost use Rattle.md_files.specs.Findings.{separator, given_attrs};
 ghost use Rattle.md_files.specs.Reports.{Shows, EndHasCause, tells_files};
 ghost use Rattle.md_files.specs.Additions.{next_text};
 
-use crate::{Asked, End, Report, ask_file};
+use crate::{End, FileReport, ImportResult, ask_file};
 use md_print::attrs_text;
 use md_source::Tree;
 use md_value::{Name, Path};
 use std::alloc::{AllocError, Global};
 
 // Appends what stands between the attributes of two files.
-fn push_separator(report: &mut Report, is_raw: bool) -> Result<(), AllocError>
+fn push_separator(report: &mut FileReport, is_raw: bool) -> Result<(), AllocError>
     ensures { OnOk result (report.new ≡ record report.old { out = report.old.out ++ separator is_raw }) }
 {
     if is_raw {
@@ -24,17 +24,17 @@ fn push_separator(report: &mut Report, is_raw: bool) -> Result<(), AllocError>
 // Appends the attributes that a file gives, behind those of other files if there are some. Whether there are some now.
 fn push_attrs(
     alloc: Global,
-    report: &mut Report,
+    report: &mut FileReport,
     some: bool,
     raw: bool,
     marker: &str,
     names: &[Name],
-    asked: &Asked,
+    asked: &ImportResult,
 ) -> Result<bool, AllocError>
     ensures text { OnOk result (report.new ≡ record report.old { out = report.old.out ++ next_text some raw marker.now names.now asked.now }) }
     ensures some { IfOk result (λ now. now ≡ (some || is_some (given_attrs asked.now))) }
 {
-    let Asked::Attrs(attrs) = asked else {
+    let ImportResult::Attrs(attrs) = asked else {
         return Ok(some);
     };
     push_separator(report, some && raw)?;
@@ -58,19 +58,19 @@ pub fn show<T: Tree>(
     marker: &str,
     names: &[Name],
     files: &[Path],
-) -> Result<Report, AllocError>
+) -> Result<FileReport, AllocError>
     ensures shows { IfOk result (λ report. Shows (T.content tree.old) (T.faults tree.old) (T.faults tree.new) offset raw marker.now names.now files.now report) }
     ensures cause { IfOk result (λ report. EndHasCause (T.faults tree.old) (T.faults tree.new) report.end) }
     ensures later { T.faults tree.old ≤ T.faults tree.new }
     ensures content { T.content tree.new ≡ T.content tree.old }
 
-    // Where the content is told.
+    // Where the content is known.
     ensures absent { IfOk result (λ report. IfSome (T.content tree.old) (λ content.
         report.end ≡ End.Absent → tells_files content files.now ≡ false)) }
     ensures complete { IfOk result (λ report. IfSome (T.content tree.old) (λ content.
         tells_files content files.now ≡ true → ¬ (Rose (T.faults tree.old) (T.faults tree.new)) → report.end ≡ End.Ok)) }
 {
-    let mut report = Report::new(alloc);
+    let mut report = FileReport::new(alloc);
     let mut some = false;
     for path in files {
         let asked = ask_file(alloc, tree, path, offset)?;

@@ -3,17 +3,17 @@ use Rattle.std.proofs.Common.{◌≡◌, ◌<◌, ◌≤◌, ℕ, Bool, true, fa
 use Rattle.md_source.specs.Causes.{Rose}
 use Rattle.md_source.specs.Tree.{Content, has_folder, entries_below}
 use Rattle.md_machine.specs.declared.Spec.{Spec}
-use Rattle.md_files.specs.Reports.{Report}
+use Rattle.md_files.specs.Reports.{FileReport}
 use Rattle.md_files.specs.declared.report.End.TheVariants as ended
 use Rattle.md_files.proofs.Causes.{read_cause, read_there, complete_end}
 use Rattle.md_find.specs.declared.finding.Search.{Search}
 use Rattle.md_find.specs.declared.finding.Output.{Output}
-use Rattle.md_find.specs.declared.finding.Found.{Found}
-use Rattle.md_find.specs.declared.finding.Found.TheVariants as found
+use Rattle.md_find.specs.declared.finding.SearchResult.{SearchResult}
+use Rattle.md_find.specs.declared.finding.SearchResult.TheVariants as found
 use Rattle.md_find.specs.Folders.{Folder, files, unlisted, nothing, full, most_files, IsHeld}
-use Rattle.md_find.specs.Finds.{query_of, form_out, form_told, found_in, Finds, misdates, asks, HasCause, EndsBy}
+use Rattle.md_find.specs.Finds.{query_of, form_out, form_reported, found_in, Finds, misdates, asks, HasCause, EndsBy}
 
-not_full : (report : Report) → found.Report report ≡ found.Full → ⊥
+not_full : (report : FileReport) → found.Report report ≡ found.Full → ⊥
 not_full report is = cc
 
 not_out : (which : ℕ) → found.OutOfRange which ≡ found.Full → ⊥
@@ -26,13 +26,13 @@ gone : (is : Bool) → is ≡ true → is ≡ false → ⊥
 gone is there none = cc
 
 module _ (before now : ℕ) (query : Spec) (output : Output) where
-  folder_cause : (told : Option Content) (folder : Folder) → IsHeld told before now query.scope folder → HasCause before now (found_in query output folder)
-  folder_cause told (files entries answers) held = read_cause query.offset entries answers told before now held.2
-  folder_cause told unlisted held = held
-  folder_cause told nothing held = held.0
-  folder_cause told full held = held.0
+  folder_cause : (known : Option Content) (folder : Folder) → IsHeld known before now query.scope folder → HasCause before now (found_in query output folder)
+  folder_cause known (files entries answers) held = read_cause query.offset entries answers known before now held.2
+  folder_cause known unlisted held = held
+  folder_cause known nothing held = held.0
+  folder_cause known full held = held.0
 
-  folder_form : (folder : Folder) → form_told (found_in query output folder) ≡ None
+  folder_form : (folder : Folder) → form_reported (found_in query output folder) ≡ None
   folder_form (files entries answers) = refl
   folder_form unlisted = refl
   folder_form nothing = refl
@@ -61,28 +61,28 @@ module _ (before now : ℕ) (query : Spec) (output : Output) where
   folder_complete content full held there few quiet = absurd (omega (arith, held.1, few))
 
 module _ (before now : ℕ) (search : Search) (output : Output) where
-  pub finds_cause : (told : Option Content) (given : Found) → Finds told before now search output given → HasCause before now given
-  finds_cause told _ (misdates which is kept) = kept
-  finds_cause told _ (asks folder none held) = folder_cause before now (query_of search) output told folder held
+  pub finds_cause : (known : Option Content) (given : SearchResult) → Finds known before now search output given → HasCause before now given
+  finds_cause known _ (misdates which is kept) = kept
+  finds_cause known _ (asks folder none held) = folder_cause before now (query_of search) output known folder held
 
-  pub finds_form : (told : Option Content) (given : Found) → Finds told before now search output given → form_told given ≡ form_out search
-  finds_form told _ (misdates which is kept) = sym is
-  finds_form told _ (asks folder none held) = folder_form before now (query_of search) output folder ∙ sym none
+  pub finds_form : (known : Option Content) (given : SearchResult) → Finds known before now search output given → form_reported given ≡ form_out search
+  finds_form known _ (misdates which is kept) = sym is
+  finds_form known _ (asks folder none held) = folder_form before now (query_of search) output folder ∙ sym none
 
-  pub finds_full : (told : Option Content) (given : Found) → Finds told before now search output given
-      → IfSome told (λ content. given ≡ found.Full → most_files < length (entries_below content.files search.scope))
+  pub finds_full : (known : Option Content) (given : SearchResult) → Finds known before now search output given
+      → IfSome known (λ content. given ≡ found.Full → most_files < length (entries_below content.files search.scope))
   finds_full None _ finds = tt
   finds_full (Some content) _ (misdates which is kept) = λ full. absurd (not_out which full)
   finds_full (Some content) _ (asks folder none held) = folder_full before now (query_of search) output content folder held
 
-  pub finds_absent : (told : Option Content) (given : Found) → Finds told before now search output given
-      → IfSome told (λ content. EndsBy given ended.Absent → has_folder content.folders search.scope ≡ false)
+  pub finds_absent : (known : Option Content) (given : SearchResult) → Finds known before now search output given
+      → IfSome known (λ content. EndsBy given ended.Absent → has_folder content.folders search.scope ≡ false)
   finds_absent None _ finds = tt
   finds_absent (Some content) _ (misdates which is kept) = λ ends. absurd ends
   finds_absent (Some content) _ (asks folder none held) = folder_absent before now (query_of search) output content folder held
 
-  pub finds_complete : (told : Option Content) (given : Found) → Finds told before now search output given
-      → IfSome told (λ content. has_folder content.folders search.scope ≡ true → length (entries_below content.files search.scope) ≤ most_files → form_out search ≡ None → ¬ (Rose before now) → EndsBy given ended.Ok)
+  pub finds_complete : (known : Option Content) (given : SearchResult) → Finds known before now search output given
+      → IfSome known (λ content. has_folder content.folders search.scope ≡ true → length (entries_below content.files search.scope) ≤ most_files → form_out search ≡ None → ¬ (Rose before now) → EndsBy given ended.Ok)
   finds_complete None _ finds = tt
   finds_complete (Some content) _ (misdates which is kept) = λ there few none quiet. absurd (not_none _ which is none)
   finds_complete (Some content) _ (asks folder none held) = λ there few _ quiet. folder_complete before now (query_of search) output content folder held there few quiet

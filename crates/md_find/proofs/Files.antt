@@ -12,9 +12,9 @@ use Rattle.md_files.specs.Answers.{outcome}
 use Rattle.md_files.specs.Findings.{Finding, read_findings, err_line, is_failed, is_absent}
 use Rattle.md_files.specs.Findings.Finding.{listed}
 use Rattle.md_files.specs.Additions.{worse}
-use Rattle.md_files.specs.Reports.{Report}
-use Rattle.md_files.specs.declared.asking.Asked.{Asked}
-use Rattle.md_files.specs.declared.asking.Asked.TheVariants as asked
+use Rattle.md_files.specs.Reports.{FileReport}
+use Rattle.md_files.specs.declared.asking.ImportResult.{ImportResult}
+use Rattle.md_files.specs.declared.asking.ImportResult.TheVariants as asked
 use Rattle.md_files.specs.declared.report.End.TheVariants as ended
 use Rattle.md_find.specs.declared.reading.ReadFile.{ReadFile}
 use Rattle.md_find.specs.declared.testing.Seen.TheVariants as seen
@@ -37,7 +37,7 @@ alike_cons finding some others alike =
     }
 
 module _ (condition : Condition) where
-  alike_more : (path : PathBytes) (given : Asked) (some others : List Finding) → Alike some others
+  alike_more : (path : PathBytes) (given : ImportResult) (some others : List Finding) → Alike some others
       → Alike (cons_option (reason_at path (seen_as condition path given)) some) (listed path given ∷ others)
   alike_more path (asked.Attrs attrs) some others alike = record { lines = alike.lines; failed = alike.failed; absent = alike.absent }
   alike_more path (asked.Fault fault) some others alike = alike_cons (listed path (asked.Fault fault)) some others alike
@@ -49,7 +49,7 @@ module _ (condition : Condition) where
   alike_seen (file ∷ files) = alike_more file.entry.path (outcome condition.offset (answer_of file)) _ _ (alike_seen files)
 
   -- what became of those that give no attributes is all that is printed of files that were read
-  pub noted_seen : (report : Report) (files : List ReadFile)
+  pub noted_seen : (report : FileReport) (files : List ReadFile)
       → noted_all report (filter_map reason_of (map (seen_file condition) files)) ≡ noted_all report (read_findings condition.offset (entries_of files) (answers_of files))
   noted_seen report files =
       let alike = alike_seen files in
@@ -64,7 +64,7 @@ module _ (condition : Condition) where
   tested row rows true is = rw is refl
   tested row rows false is = rw is refl
 
-  hits_more : (path : PathBytes) (given : Asked) (rows : List Row)
+  hits_more : (path : PathBytes) (given : ImportResult) (rows : List Row)
       → cons_option (hit_at path (seen_as condition path given)) (paths_of (filter (passes condition) rows)) ≡ paths_of (filter (passes condition) (cons_option (row_of path given) rows))
   hits_more path (asked.Attrs attrs) rows = tested (record { path = path; attrs = attrs }) rows (passes condition (record { path = path; attrs = attrs })) refl
   hits_more path (asked.Fault fault) rows = refl

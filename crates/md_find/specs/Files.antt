@@ -4,14 +4,14 @@ use Rattle.std.specs.List.{zip, filter_map}
 use Rattle.md_value.specs.Values.{PathBytes}
 use Rattle.md_source.specs.declared.tree.Entry.{Entry}
 use Rattle.md_world.specs.declared.Row.{Row}
-use Rattle.md_files.specs.Answers.{Answer, outcome}
-use Rattle.md_files.specs.Answers.Answer.{given, absent, failed}
+use Rattle.md_files.specs.Answers.{FileAnswer, outcome}
+use Rattle.md_files.specs.Answers.FileAnswer.{given, absent, failed}
 use Rattle.md_files.specs.Findings.{Finding}
 use Rattle.md_files.specs.Findings.Finding.{listed}
-use Rattle.md_files.specs.declared.asking.Asked.{Asked}
-use Rattle.md_files.specs.declared.asking.Asked.TheVariants as asked
-use Rattle.md_find.specs.declared.reading.Front.{Front}
-use Rattle.md_find.specs.declared.reading.Front.TheVariants as front
+use Rattle.md_files.specs.declared.asking.ImportResult.{ImportResult}
+use Rattle.md_files.specs.declared.asking.ImportResult.TheVariants as asked
+use Rattle.md_find.specs.declared.reading.Prefix.{Prefix}
+use Rattle.md_find.specs.declared.reading.Prefix.TheVariants as prefix
 use Rattle.md_find.specs.declared.reading.ReadFile.{ReadFile}
 use Rattle.md_find.specs.declared.testing.Seen.{Seen}
 use Rattle.md_find.specs.declared.testing.Seen.TheVariants as seen
@@ -19,31 +19,31 @@ use Rattle.md_find.specs.declared.testing.SeenFile.{SeenFile}
 use Rattle.md_match.specs.Conditions.{Condition, passes}
 
 -- the row of a file that gives attributes
-abbrev pub row_of : PathBytes → Asked → Option Row
+abbrev pub row_of : PathBytes → ImportResult → Option Row
 row_of path (asked.Attrs attrs) = Some (record { path = path; attrs = attrs })
 row_of path _ = None
 
 -- the table of the files that give attributes
-abbrev pub table_of : ℤ → List Entry → List Answer → List Row
+abbrev pub table_of : ℤ → List Entry → List FileAnswer → List Row
 table_of offset entries answers = filter_map (λ pair. row_of pair.0.path (outcome offset pair.1)) (zip entries answers)
 
 -- the answer to the asking of a file
-abbrev pub front_answer : Entry → Front → Answer
-front_answer entry (front.Bytes bytes) = given entry bytes.items
-front_answer entry front.Absent = absent
-front_answer entry front.Failed = failed
+abbrev pub prefix_answer : Entry → Prefix → FileAnswer
+prefix_answer entry (prefix.Bytes bytes) = given entry bytes.items
+prefix_answer entry prefix.Absent = absent
+prefix_answer entry prefix.Failed = failed
 
-abbrev pub answer_of : ReadFile → Answer
-answer_of file = front_answer file.entry file.front
+abbrev pub answer_of : ReadFile → FileAnswer
+answer_of file = prefix_answer file.entry file.prefix
 
-abbrev pub answers_of : List ReadFile → List Answer
+abbrev pub answers_of : List ReadFile → List FileAnswer
 answers_of files = map answer_of files
 
 abbrev pub entries_of : List ReadFile → List Entry
 entries_of files = map (λ file. file.entry) files
 
 -- what a search makes of a file that gives this: whether its row passes, if it gives attributes
-abbrev pub seen_as : Condition → PathBytes → Asked → Seen
+abbrev pub seen_as : Condition → PathBytes → ImportResult → Seen
 seen_as condition path (asked.Attrs attrs) = seen.Tested (passes condition (record { path = path; attrs = attrs }))
 seen_as condition path bare = seen.Bare bare
 

@@ -13,18 +13,18 @@ use Rattle.md_machine.specs.declared.Spec.{Spec}
 use Rattle.md_machine.specs.Answers.{no_batch}
 use Rattle.md_machine.specs.Answers as machine
 use Rattle.md_machine.specs.Answers.{answer}
-use Rattle.md_files.specs.Answers.{Answer}
+use Rattle.md_files.specs.Answers.{FileAnswer}
 use Rattle.md_files.specs.Folders.{AreRead}
 use Rattle.md_files.specs.Findings.{read_findings}
 use Rattle.md_files.specs.Findings.Finding.{named, no_listing}
-use Rattle.md_files.specs.Reports.{Report, report_of, EndHasCause}
-use Rattle.md_files.specs.declared.asking.Asked.TheVariants as asked
+use Rattle.md_files.specs.Reports.{FileReport, report_of, EndHasCause}
+use Rattle.md_files.specs.declared.asking.ImportResult.TheVariants as asked
 use Rattle.md_files.specs.declared.report.End.{End}
 use Rattle.md_find.specs.declared.finding.Search.{Search}
 use Rattle.md_find.specs.declared.finding.Output.{Output}
 use Rattle.md_find.specs.declared.finding.Output.TheVariants as output
-use Rattle.md_find.specs.declared.finding.Found.{Found}
-use Rattle.md_find.specs.declared.finding.Found.TheVariants as found
+use Rattle.md_find.specs.declared.finding.SearchResult.{SearchResult}
+use Rattle.md_find.specs.declared.finding.SearchResult.TheVariants as found
 use Rattle.md_find.specs.Files.{table_of}
 use Rattle.md_find.specs.Folders.{Folder, files, unlisted, nothing, full, IsHeld}
 
@@ -33,7 +33,7 @@ abbrev pub query_of : Search → Spec
 query_of search = machine.spec_of search.expr search.moment search.offset search.scope [] no_batch
 
 -- the paths of the files that a query answers
-abbrev pub hits : Spec → List Entry → List Answer → List PathBytes
+abbrev pub hits : Spec → List Entry → List FileAnswer → List PathBytes
 hits query entries answers = paths_of (answer query (table_of query.offset entries answers))
 
 -- a path with this end behind it
@@ -47,11 +47,11 @@ found_text output.Zeros paths = flat_map (ended (0 ∷ [])) paths
 found_text output.Count paths = decimal (length paths) ++ codes "\n"
 
 -- what is found among the files of a folder
-abbrev pub found_among : Spec → Output → List Entry → List Answer → Report
+abbrev pub found_among : Spec → Output → List Entry → List FileAnswer → FileReport
 found_among query output entries answers = report_of (found_text output (hits query entries answers)) (read_findings query.offset entries answers)
 
 -- what a query gives on a folder
-abbrev pub found_in : Spec → Output → Folder → Found
+abbrev pub found_in : Spec → Output → Folder → SearchResult
 found_in query output (files entries answers) = found.Report (found_among query output entries answers)
 found_in query output unlisted = found.Report (report_of (found_text output []) (no_listing query.scope ∷ []))
 found_in query output nothing = found.Report (report_of (found_text output []) (named query.scope asked.Absent ∷ []))
@@ -62,39 +62,39 @@ abbrev pub form_out : Search → Option ℕ
 form_out search = option_map capped (first_out_of_range search.moment search.offset search.expr)
 
 -- What a search gives: a form of time that is out of range, where the tree is not asked, or what its query gives on its folder.
-pub data Finds (told : Option Content) (before now : ℕ) (search : Search) (output : Output) : Found → Type 0 where
-  misdates : (which : ℕ) → form_out search ≡ Some which → now ≡ before → Finds told before now search output (found.OutOfRange which)
-  asks : (folder : Folder) → form_out search ≡ None → IsHeld told before now search.scope folder → Finds told before now search output (found_in (query_of search) output folder)
+pub data Finds (known : Option Content) (before now : ℕ) (search : Search) (output : Output) : SearchResult → Type 0 where
+  misdates : (which : ℕ) → form_out search ≡ Some which → now ≡ before → Finds known before now search output (found.OutOfRange which)
+  asks : (folder : Folder) → form_out search ≡ None → IsHeld known before now search.scope folder → Finds known before now search output (found_in (query_of search) output folder)
 
--- the form of time that is told to be out of range
-abbrev pub form_told : Found → Option ℕ
-form_told (found.OutOfRange which) = Some which
-form_told _ = None
+-- the form of time that is reported to be out of range
+abbrev pub form_reported : SearchResult → Option ℕ
+form_reported (found.OutOfRange which) = Some which
+form_reported _ = None
 
 -- the count of faults rose where some asking failed, and stands where none did
-abbrev pub HasCause : ℕ → ℕ → Found → Type 0
+abbrev pub HasCause : ℕ → ℕ → SearchResult → Type 0
 HasCause before now (found.Report report) = EndHasCause before now report.end
 HasCause before now _ = now ≡ before
 
 -- it is a report that ends so
-abbrev pub EndsBy : Found → End → Type 0
+abbrev pub EndsBy : SearchResult → End → Type 0
 EndsBy (found.Report report) end = report.end ≡ end
 EndsBy _ end = ⊥
 
 -- the files of a listing were asked for in turn, and this is found among them by a condition
-pub record FindsBy (told : Option Content) (before now : ℕ) (condition : Condition) (output : Output) (entries : List Entry) (report : Report) : Type 0 where
-  pub answers : List Answer
-  pub asked : AreRead told before now entries answers
+pub record FindsBy (known : Option Content) (before now : ℕ) (condition : Condition) (output : Output) (entries : List Entry) (report : FileReport) : Type 0 where
+  pub answers : List FileAnswer
+  pub asked : AreRead known before now entries answers
   pub is : report ≡ report_of (found_text output (paths_of (filter (passes condition) (table_of condition.offset entries answers)))) (read_findings condition.offset entries answers)
 
 -- and by a query
-pub record FindsAmong (told : Option Content) (before now : ℕ) (query : Spec) (output : Output) (entries : List Entry) (report : Report) : Type 0 where
-  pub answers : List Answer
-  pub asked : AreRead told before now entries answers
+pub record FindsAmong (known : Option Content) (before now : ℕ) (query : Spec) (output : Output) (entries : List Entry) (report : FileReport) : Type 0 where
+  pub answers : List FileAnswer
+  pub asked : AreRead known before now entries answers
   pub is : report ≡ found_among query output entries answers
 
 -- the query's folder was asked for, and this is found below it
-pub record FindsBelow (told : Option Content) (before now : ℕ) (query : Spec) (output : Output) (found : Found) : Type 0 where
+pub record FindsBelow (known : Option Content) (before now : ℕ) (query : Spec) (output : Output) (found : SearchResult) : Type 0 where
   pub folder : Folder
-  pub held : IsHeld told before now query.scope folder
+  pub held : IsHeld known before now query.scope folder
   pub is : found ≡ found_in query output folder

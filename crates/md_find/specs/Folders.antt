@@ -3,7 +3,7 @@ use Rattle.std.specs.Prelude.{◌≡◌, ℕ, ◌≤◌, ◌<◌, List, length, 
 use Rattle.md_value.specs.Values.{PathBytes}
 use Rattle.md_source.specs.Tree.{Content, entries_below}
 use Rattle.md_source.specs.declared.tree.Entry.{Entry}
-use Rattle.md_files.specs.Answers.{Answer, Fails, failures}
+use Rattle.md_files.specs.Answers.{FileAnswer, Fails, failures}
 use Rattle.md_files.specs.Folders.{IsListed, HasNoFolder, AreRead}
 
 -- the most files of a folder that is searched
@@ -13,21 +13,21 @@ most_files = 1_000_000
 -- the files of a folder with the answers to their askings; a folder that could not be listed; no folder; or a folder of too
 -- many files, none of which is asked for
 pub data Folder : Type 0 where
-  files : List Entry → List Answer → Folder
+  files : List Entry → List FileAnswer → Folder
   unlisted : Folder
   nothing : Folder
   full : Folder
 
--- where the content is told, the folder has too many files
+-- where the content is known, the folder has too many files
 abbrev pub HasTooMany : Option Content → PathBytes → Type 0
-HasTooMany told path = IfSome told (λ content. most_files < length (entries_below content.files path))
+HasTooMany known path = IfSome known (λ content. most_files < length (entries_below content.files path))
 
 -- what a folder was found to hold
 abbrev pub IsHeld : Option Content → ℕ → ℕ → PathBytes → Folder → Type 0
-IsHeld told before now path (files entries answers) = IsListed told path entries × (length entries ≤ most_files) × AreRead told before now entries answers
-IsHeld told before now path unlisted = Fails before now
-IsHeld told before now path nothing = (now ≡ before) × HasNoFolder told path
-IsHeld told before now path full = (now ≡ before) × HasTooMany told path
+IsHeld known before now path (files entries answers) = IsListed known path entries × (length entries ≤ most_files) × AreRead known before now entries answers
+IsHeld known before now path unlisted = Fails before now
+IsHeld known before now path nothing = (now ≡ before) × HasNoFolder known path
+IsHeld known before now path full = (now ≡ before) × HasTooMany known path
 
 -- how many askings failed: of the listing, or of its files
 abbrev pub folder_failures : Folder → ℕ

@@ -9,13 +9,13 @@ ghost use Rattle.md_files.specs.Reports.{report_of};
 ghost use Rattle.md_find.specs.Files.{hit_of, reason_of};
 ghost use Rattle.md_find.specs.Folders.{most_files};
 ghost use Rattle.md_find.specs.Notes.{noted_all};
-ghost use Rattle.md_find.specs.Finds.{found_text, FindsBy, FindsAmong, FindsBelow, Finds, HasCause, EndsBy, form_out, form_told};
+ghost use Rattle.md_find.specs.Finds.{found_text, FindsBy, FindsAmong, FindsBelow, Finds, HasCause, EndsBy, form_out, form_reported};
 
 use crate::printing::found_text;
 use crate::reading::{list_files, read_files};
 use crate::testing::{Seen, SeenFile, seen_files};
 use md_expr_tree::Expr;
-use md_files::{Asked, End, Report};
+use md_files::{End, FileReport, ImportResult};
 use md_machine::{Batch, Spec, TimeOutOfRange};
 use md_match::Filter;
 use md_source::{Entry, ListEnd, Tree};
@@ -35,7 +35,7 @@ const BATCH: usize = 1_000;
 #[derive(Drop)]
 pub struct Search {
     pub expr: Expr,
-    /// The moment from which forms of time are told, in seconds since 1970 in UTC.
+    /// The moment from which forms of time are resolved, in seconds since 1970 in UTC.
     pub moment: i64,
     /// The minutes by which local time is ahead of UTC.
     pub offset: i32,
@@ -56,9 +56,9 @@ pub enum Output {
 
 /// What a search gives.
 #[derive(Debug, Drop)]
-pub enum Found {
+pub enum SearchResult {
     /// What is printed, and how the askings of the tree ended.
-    Report(Report),
+    Report(FileReport),
     /// The folder has over 1,000,000 files.
     Full,
     /// The form of time of this number, from 1 in reading order, is the first whose moment is out of range, or the number
@@ -67,7 +67,7 @@ pub enum Found {
 }
 
 // Adds to a report what became of a file that gives no attributes.
-fn note_file(alloc: Global, report: &mut Report, file: &SeenFile) -> Result<(), AllocError>
+fn note_file(alloc: Global, report: &mut FileReport, file: &SeenFile) -> Result<(), AllocError>
     ensures { OnOk result (report.new ≡ noted_all report.old (cons_option (reason_of file.now) [])) }
 {
     match &file.seen {
@@ -76,7 +76,7 @@ fn note_file(alloc: Global, report: &mut Report, file: &SeenFile) -> Result<(), 
     }
 }
 
-fn note(alloc: Global, report: &mut Report, files: &[SeenFile]) -> Result<(), AllocError>
+fn note(alloc: Global, report: &mut FileReport, files: &[SeenFile]) -> Result<(), AllocError>
     ensures { OnOk result (report.new ≡ noted_all report.old (filter_map reason_of files.now)) }
 {
     for file in files {
@@ -113,13 +113,13 @@ fn find_by<R: Threads + Sync, T: Tree>(
     entries: &[Entry],
     filter: &Filter,
     output: Output,
-) -> Result<Report, AllocError>
+) -> Result<FileReport, AllocError>
     requires { All (λ entry. IsMoment entry.changed) entries.now }
     ensures found { IfOk result (λ report. FindsBy (T.content tree.old) (T.faults tree.old) (T.faults tree.new) filter.now output entries.now report) }
     ensures later { T.faults tree.old ≤ T.faults tree.new }
     ensures content { T.content tree.new ≡ T.content tree.old }
 {
-    let mut report = Report::new(alloc);
+    let mut report = FileReport::new(alloc);
     let mut hits = Vec::new(alloc);
     for batch in entries.chunks(BATCH) {
         let files = read_files(alloc, tree, batch)?;
@@ -140,7 +140,7 @@ fn find_among<R: Threads + Sync, T: Tree>(
     entries: &[Entry],
     spec: &Spec,
     output: Output,
-) -> Result<Report, AllocError>
+) -> Result<FileReport, AllocError>
     requires { All (λ entry. IsMoment entry.changed) entries.now }
     ensures found { IfOk result (λ report. FindsAmong (T.content tree.old) (T.faults tree.old) (T.faults tree.new) spec.entry.now output entries.now report) }
     ensures later { T.faults tree.old ≤ T.faults tree.new }
@@ -151,24 +151,24 @@ fn find_among<R: Threads + Sync, T: Tree>(
 }
 
 // What is printed where no file is found.
-fn none_found(alloc: Global, output: Output) -> Result<Report, AllocError>
+fn none_found(alloc: Global, output: Output) -> Result<FileReport, AllocError>
     ensures { IfOk result (λ report. report ≡ report_of (found_text output []) []) }
 {
-    let mut report = Report::new(alloc);
+    let mut report = FileReport::new(alloc);
     let text = found_text(alloc, output, &[])?;
     report.push_out(text.as_str())?;
     Ok(report)
 }
 
-fn absent(alloc: Global, scope: &Path, output: Output) -> Result<Report, AllocError>
-    ensures { IfOk result (λ report. report ≡ report_of (found_text output []) (named scope.now Asked.Absent ∷ [])) }
+fn absent(alloc: Global, scope: &Path, output: Output) -> Result<FileReport, AllocError>
+    ensures { IfOk result (λ report. report ≡ report_of (found_text output []) (named scope.now ImportResult.Absent ∷ [])) }
 {
     let mut report = none_found(alloc, output)?;
-    report.add_named(alloc, scope, &Asked::Absent)?;
+    report.add_named(alloc, scope, &ImportResult::Absent)?;
     Ok(report)
 }
 
-fn unlisted(alloc: Global, scope: &Path, output: Output) -> Result<Report, AllocError>
+fn unlisted(alloc: Global, scope: &Path, output: Output) -> Result<FileReport, AllocError>
     ensures { IfOk result (λ report. report ≡ report_of (found_text output []) (no_listing scope.now ∷ [])) }
 {
     let mut report = none_found(alloc, output)?;
@@ -183,7 +183,7 @@ fn find_below<R: Threads + Sync, T: Tree>(
     tree: &mut T,
     spec: Spec,
     output: Output,
-) -> Result<Found, AllocError>
+) -> Result<SearchResult, AllocError>
     ensures finds { IfOk result (λ found. FindsBelow (T.content tree.old) (T.faults tree.old) (T.faults tree.new) spec output found) }
     ensures later { T.faults tree.old ≤ T.faults tree.new }
     ensures content { T.content tree.new ≡ T.content tree.old }
@@ -191,19 +191,19 @@ fn find_below<R: Threads + Sync, T: Tree>(
     match list_files(alloc, tree, &spec.scope) {
         Ok(entries) => {
             if entries.len() > MOST_FILES {
-                return Ok(Found::Full);
+                return Ok(SearchResult::Full);
             }
             let report = find_among(rt, alloc, tree, &entries, &spec, output)?;
-            Ok(Found::Report(report))
+            Ok(SearchResult::Report(report))
         }
-        Err(ListEnd::Absent) => Ok(Found::Report(absent(alloc, &spec.scope, output)?)),
-        Err(ListEnd::Failed) => Ok(Found::Report(unlisted(alloc, &spec.scope, output)?)),
+        Err(ListEnd::Absent) => Ok(SearchResult::Report(absent(alloc, &spec.scope, output)?)),
+        Err(ListEnd::Failed) => Ok(SearchResult::Report(unlisted(alloc, &spec.scope, output)?)),
         Err(ListEnd::Memory) => Err(AllocError),
     }
 }
 
 /// Asks a tree for the files below the search's folder, imports them, and makes the text of the paths of those that
-/// satisfy the expression, ascending by bytes. The forms of time are told first; where one is out of range, the tree is not
+/// satisfy the expression, ascending by bytes. The forms of time are resolved first; where one is out of range, the tree is not
 /// asked. The files are read by this thread in path order and imported and tested in as many threads as there are
 /// processors, at most 1,000 at a time.
 ///
@@ -217,17 +217,17 @@ pub fn find<R: Threads + Sync, T: Tree>(
     tree: &mut T,
     search: Search,
     output: Output,
-) -> Result<Found, AllocError>
+) -> Result<SearchResult, AllocError>
     ensures finds { IfOk result (λ found. Finds (T.content tree.old) (T.faults tree.old) (T.faults tree.new) search output found) }
     ensures cause { IfOk result (λ found. HasCause (T.faults tree.old) (T.faults tree.new) found) }
     ensures later { T.faults tree.old ≤ T.faults tree.new }
     ensures content { T.content tree.new ≡ T.content tree.old }
-    // The form of time that is told is the first that is out of range, and none is told exactly where none is.
-    ensures out_of_range { IfOk result (λ found. form_told found ≡ form_out search) }
+    // the form of time that is reported is the first that is out of range, and none is reported exactly where none is.
+    ensures out_of_range { IfOk result (λ found. form_reported found ≡ form_out search) }
 
-    // Where the content is told.
+    // Where the content is known.
     ensures full { IfOk result (λ found. IfSome (T.content tree.old) (λ content.
-        found ≡ Found.Full → most_files < length (entries_below content.files search.scope))) }
+        found ≡ SearchResult.Full → most_files < length (entries_below content.files search.scope))) }
     ensures absent { IfOk result (λ found. IfSome (T.content tree.old) (λ content.
         EndsBy found End.Absent → has_folder content.folders search.scope ≡ false)) }
     ensures complete { IfOk result (λ found. IfSome (T.content tree.old) (λ content.
@@ -249,6 +249,6 @@ pub fn find<R: Threads + Sync, T: Tree>(
         Batch::NONE,
     ) {
         Ok(spec) => find_below(rt, alloc, tree, spec, output),
-        Err(TimeOutOfRange(which)) => Ok(Found::OutOfRange(which)),
+        Err(TimeOutOfRange(which)) => Ok(SearchResult::OutOfRange(which)),
     }
 }

@@ -10,8 +10,8 @@ ghost use Rattle.md_find.specs.Folders.{Folder, IsHeld, folder_failures};
 /// Of the askings of a search, no more failed than the count of faults rose by, unless it stands at its type's end; and it
 /// stands where none failed.
 pub fn askings_are_counted()
-    ensures { (told : Option Content) (before now : ℕ) (path : PathBytes) (folder : Folder)
-        → IsHeld told before now path folder → IsCounted before now (folder_failures folder) }
+    ensures { (known : Option Content) (before now : ℕ) (path : PathBytes) (folder : Folder)
+        → IsHeld known before now path folder → IsCounted before now (folder_failures folder) }
 {}
 
 /// An expression without forms of time has none that is out of range, whatever moment the clock shows.

@@ -3,16 +3,16 @@ ghost use Rattle.std.specs.Prelude.{◌≡◌, ◌≤◌, IfOk, IsErrOf};
 ghost use Rattle.md_source.specs.Tree.{ListHasCause};
 ghost use Rattle.md_files.specs.Answers.{IsRead};
 ghost use Rattle.md_files.specs.Folders.{AreRead, HasNoFolder, IsListed};
-ghost use Rattle.md_find.specs.Files.{front_answer, entries_of, answers_of};
+ghost use Rattle.md_find.specs.Files.{prefix_answer, entries_of, answers_of};
 
-use md_files::{in_path_order, read_front};
+use md_files::{in_path_order, read_prefix};
 use md_source::{Entry, ListEnd, ReadEnd, Tree};
 use md_value::{Copied, Path};
 use std::alloc::{AllocError, Global};
 
 /// What a tree gives of a file.
 #[derive(Drop)]
-pub enum Front {
+pub enum Prefix {
     /// The first bytes, as many as are read.
     Bytes(Vec<u8>),
     /// There is no file of this path.
@@ -25,7 +25,7 @@ pub enum Front {
 #[derive(Drop)]
 pub struct ReadFile {
     pub entry: Entry,
-    pub front: Front,
+    pub prefix: Prefix,
 }
 
 /// The files below a folder, ascending by path.
@@ -45,15 +45,15 @@ pub fn list_files<T: Tree>(
     Ok(entries)
 }
 
-fn read_file<T: Tree>(alloc: Global, tree: &mut T, entry: &Entry) -> Result<Front, AllocError>
-    ensures read { IfOk result (λ front. IsRead (T.content tree.old) (T.faults tree.old) (T.faults tree.new) entry.now (front_answer entry.now front)) }
+fn read_file<T: Tree>(alloc: Global, tree: &mut T, entry: &Entry) -> Result<Prefix, AllocError>
+    ensures read { IfOk result (λ prefix. IsRead (T.content tree.old) (T.faults tree.old) (T.faults tree.new) entry.now (prefix_answer entry.now prefix)) }
     ensures later { T.faults tree.old ≤ T.faults tree.new }
     ensures content { T.content tree.new ≡ T.content tree.old }
 {
-    match read_front(alloc, tree, &entry.path) {
-        Ok(bytes) => Ok(Front::Bytes(bytes)),
-        Err(ReadEnd::Absent) => Ok(Front::Absent),
-        Err(ReadEnd::Failed) => Ok(Front::Failed),
+    match read_prefix(alloc, tree, &entry.path) {
+        Ok(bytes) => Ok(Prefix::Bytes(bytes)),
+        Err(ReadEnd::Absent) => Ok(Prefix::Absent),
+        Err(ReadEnd::Failed) => Ok(Prefix::Failed),
         Err(ReadEnd::Memory) => Err(AllocError),
     }
 }
@@ -71,9 +71,9 @@ pub fn read_files<T: Tree>(
 {
     let mut files = Vec::new(alloc);
     for entry in entries {
-        let front = read_file(alloc, tree, entry)?;
+        let prefix = read_file(alloc, tree, entry)?;
         let entry = entry.copy(alloc)?;
-        files.push(ReadFile { entry, front })?;
+        files.push(ReadFile { entry, prefix })?;
     }
     Ok(files)
 }

@@ -4,8 +4,8 @@ ghost use Rattle.md_value.specs.Values.{IsMoment};
 ghost use Rattle.md_files.specs.Answers.{outcome};
 ghost use Rattle.md_find.specs.Files.{answer_of, seen_as, seen_file};
 
-use crate::reading::{Front, ReadFile};
-use md_files::{Asked, imported};
+use crate::reading::{Prefix, ReadFile};
+use md_files::{ImportResult, imported};
 use md_match::Filter;
 use md_value::{Copied, Path};
 use md_world::Row;
@@ -19,7 +19,7 @@ pub enum Seen {
     /// Whether its attributes satisfy the expression.
     Tested(bool),
     /// It gives no attributes, but this.
-    Bare(Asked),
+    Bare(ImportResult),
 }
 
 /// A file, and what a search makes of it.
@@ -30,24 +30,29 @@ pub struct SeenFile {
 }
 
 // What a file that was read gives.
-fn asked(alloc: Global, file: &ReadFile, offset: i32) -> Result<Asked, AllocError>
+fn asked(alloc: Global, file: &ReadFile, offset: i32) -> Result<ImportResult, AllocError>
     requires { IsMoment file.now.entry.changed }
     ensures { IfOk result (λ asked. asked ≡ outcome offset (answer_of file.now)) }
 {
-    match &file.front {
-        Front::Bytes(bytes) => imported(alloc, &file.entry, bytes, offset),
-        Front::Absent => Ok(Asked::Absent),
-        Front::Failed => Ok(Asked::Failed),
+    match &file.prefix {
+        Prefix::Bytes(bytes) => imported(alloc, &file.entry, bytes, offset),
+        Prefix::Absent => Ok(ImportResult::Absent),
+        Prefix::Failed => Ok(ImportResult::Failed),
     }
 }
 
 // What a search makes of a file that gives this. Nothing of its attributes is kept.
-fn seen_as(alloc: Global, filter: &Filter, path: Path, asked: Asked) -> Result<SeenFile, AllocError>
+fn seen_as(
+    alloc: Global,
+    filter: &Filter,
+    path: Path,
+    asked: ImportResult,
+) -> Result<SeenFile, AllocError>
     ensures path { IfOk result (λ file. file.path ≡ path) }
     ensures seen { IfOk result (λ file. file.seen ≡ seen_as filter.now path asked) }
 {
     match asked {
-        Asked::Attrs(attrs) => {
+        ImportResult::Attrs(attrs) => {
             let row = Row { path, attrs };
             let is = filter.test(alloc, &row)?;
             Ok(SeenFile {

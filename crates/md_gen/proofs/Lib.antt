@@ -2,7 +2,7 @@ pub mod Paths
 pub mod Listed
 pub mod More
 mod Expressions
-mod Told
+mod Stated
 mod Written
 mod Texts
 mod Scripted

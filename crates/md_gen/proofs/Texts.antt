@@ -11,30 +11,30 @@ use Rattle.md_script.specs.Scripts.{is_bad_line, statements}
 use Rattle.md_script.proofs.Outcomes.{timed, timed_all}
 use Rattle.md_script.proofs.Verdicts.{accepted_lem}
 use Rattle.md_gen.specs.Reads.{IsRead, IsTimely}
-use Rattle.md_gen.proofs.Told.{IsTold, is_end}
+use Rattle.md_gen.proofs.Stated.{IsStated, is_end}
 
 -- the text is at most so many whole lines that say something
-pub record AreTold (text : List ℕ) (most : ℕ) : Type 0 where
+pub record AreStated (text : List ℕ) (most : ℕ) : Type 0 where
   pub each : List (List ℕ)
   pub split : (rest : List ℕ) → lines (text ++ rest) ≡ each ++ lines rest
-  pub told : All IsTold each
+  pub known : All IsStated each
   pub few : length each ≤ most
   pub short : length text ≤ 200 * most
 
-pub told_none : AreTold [] 0
-told_none = record { each = []; split = λ rest. refl; told = All-nil IsTold; few = omega arith; short = omega arith }
+pub stated_none : AreStated [] 0
+stated_none = record { each = []; split = λ rest. refl; known = All-nil IsStated; few = omega arith; short = omega arith }
 
-pub told_join : (a b : List ℕ) (m n : ℕ) → AreTold a m → AreTold b n → AreTold (a ++ b) (m + n)
-told_join a b m n x y = record {
+pub stated_join : (a b : List ℕ) (m n : ℕ) → AreStated a m → AreStated b n → AreStated (a ++ b) (m + n)
+stated_join a b m n x y = record {
   each = x.each ++ y.each;
   split = λ rest. ap lines (append_assoc a b rest) ∙ x.split (b ++ rest) ∙ ap (λ ls. x.each ++ ls) (y.split rest) ∙ sym (append_assoc x.each y.each (lines rest));
-  told = All-append IsTold x.each y.each x.told y.told;
+  known = All-append IsStated x.each y.each x.known y.known;
   few = omega (arith, x.few, y.few, length-append x.each y.each);
   short = omega (arith, x.short, y.short, length-append a b);
 }
 
-pub told_more : (a : List ℕ) (m n : ℕ) → m ≤ n → AreTold a m → AreTold a n
-told_more a m n less x = record { each = x.each; split = x.split; told = x.told; few = omega (arith, less, x.few); short = omega (arith, less, x.short) }
+pub stated_more : (a : List ℕ) (m n : ℕ) → m ≤ n → AreStated a m → AreStated a n
+stated_more a m n less x = record { each = x.each; split = x.split; known = x.known; few = omega (arith, less, x.few); short = omega (arith, less, x.short) }
 
 -- a line with an end behind it
 
@@ -67,26 +67,26 @@ line_first line rest none =
     ∙ parts_more line (slice_split (λ b. b == 10) rest) (omega (arith, length-slice_split (λ b. b == 10) rest))
     ∙ ap (λ first. first ∷ lines rest) (stripped line none)
 
-pub told_line : (line : List ℕ) → IsTold line → AreTold (line ++ codes "\n") 1
-told_line line told = record {
+pub stated_line : (line : List ℕ) → IsStated line → AreStated (line ++ codes "\n") 1
+stated_line line known = record {
   each = line ∷ [];
-  split = λ rest. line_first line rest told.whole;
-  told = All-cons IsTold line [] told (All-nil IsTold);
+  split = λ rest. line_first line rest known.whole;
+  known = All-cons IsStated line [] known (All-nil IsStated);
   few = omega arith;
-  short = omega (arith, length-append line (codes "\n"), told.short);
+  short = omega (arith, length-append line (codes "\n"), known.short);
 }
 
--- what many texts are told together
-pub told_each : {A : Type 0} (f : A → List ℕ) (P : A → Type 0) → ((x : A) → P x → AreTold (f x) 2) → (xs : List A) → All P xs → AreTold (flat_map f xs) (2 * length xs)
-told_each f P each [] all = told_none
-told_each f P each (x ∷ xs) all =
-    told_more (f x ++ flat_map f xs) (2 + 2 * length xs) (2 * length (x ∷ xs)) (omega arith)
-    (told_join (f x) (flat_map f xs) 2 (2 * length xs) (each x (All-head P x xs all)) (told_each f P each xs (All-tail P x xs all)))
+-- what many texts say together
+pub stated_each : {A : Type 0} (f : A → List ℕ) (P : A → Type 0) → ((x : A) → P x → AreStated (f x) 2) → (xs : List A) → All P xs → AreStated (flat_map f xs) (2 * length xs)
+stated_each f P each [] all = stated_none
+stated_each f P each (x ∷ xs) all =
+    stated_more (f x ++ flat_map f xs) (2 + 2 * length xs) (2 * length (x ∷ xs)) (omega arith)
+    (stated_join (f x) (flat_map f xs) 2 (2 * length xs) (each x (All-head P x xs all)) (stated_each f P each xs (All-tail P x xs all)))
 
 -- none of the lines is bad, and each has the moment 0
-none_bad : (n : ℕ) (ls : List (List ℕ)) → All IsTold ls → position_from is_bad_line n ls ≡ None
-none_bad n [] told = refl
-none_bad n (l ∷ ls) told = rw ((All-head IsTold l ls told).says) (none_bad (n + 1) ls (All-tail IsTold l ls told))
+none_bad : (n : ℕ) (ls : List (List ℕ)) → All IsStated ls → position_from is_bad_line n ls ≡ None
+none_bad n [] known = refl
+none_bad n (l ∷ ls) known = rw ((All-head IsStated l ls known).says) (none_bad (n + 1) ls (All-tail IsStated l ls known))
 
 abbrev IsNow : Line → Type 0
 IsNow line = line.at_ms ≡ 0
@@ -94,25 +94,25 @@ IsNow line = line.at_ms ≡ 0
 abbrev IsInTime : Line → Type 0
 IsInTime line = IsTimely line.what
 
-all_now : (n : ℕ) (ls : List (List ℕ)) → All IsTold ls → All IsNow (timed n 0 ls)
-all_now n [] told = All-nil IsNow
-all_now n (l ∷ ls) told =
-    let first = All-head IsTold l ls told in
-    rw (first.says) (All-cons IsNow (record { number = n; at_ms = 0; what = first.what }) (timed (n + 1) 0 ls) refl (all_now (n + 1) ls (All-tail IsTold l ls told)))
+all_now : (n : ℕ) (ls : List (List ℕ)) → All IsStated ls → All IsNow (timed n 0 ls)
+all_now n [] known = All-nil IsNow
+all_now n (l ∷ ls) known =
+    let first = All-head IsStated l ls known in
+    rw (first.says) (All-cons IsNow (record { number = n; at_ms = 0; what = first.what }) (timed (n + 1) 0 ls) refl (all_now (n + 1) ls (All-tail IsStated l ls known)))
 
-all_timely : (n : ℕ) (ls : List (List ℕ)) → All IsTold ls → All IsInTime (timed n 0 ls)
-all_timely n [] told = All-nil IsInTime
-all_timely n (l ∷ ls) told =
-    let first = All-head IsTold l ls told in
-    rw (first.says) (All-cons IsInTime (record { number = n; at_ms = 0; what = first.what }) (timed (n + 1) 0 ls) first.timely (all_timely (n + 1) ls (All-tail IsTold l ls told)))
+all_timely : (n : ℕ) (ls : List (List ℕ)) → All IsStated ls → All IsInTime (timed n 0 ls)
+all_timely n [] known = All-nil IsInTime
+all_timely n (l ∷ ls) known =
+    let first = All-head IsStated l ls known in
+    rw (first.says) (All-cons IsInTime (record { number = n; at_ms = 0; what = first.what }) (timed (n + 1) 0 ls) first.timely (all_timely (n + 1) ls (All-tail IsStated l ls known)))
 
-pub told_read : (text : List ℕ) (most : ℕ) → most ≤ most_lines → AreTold text most → IsRead text
-told_read text most few told =
-    let whole : lines text ≡ told.each = ap lines (sym (append-nil text)) ∙ told.split [] ∙ append-nil told.each in
-    let said : statements text ≡ timed 1 0 told.each = sym (timed_all text) ∙ ap (timed 1 0) whole in
+pub stated_read : (text : List ℕ) (most : ℕ) → most ≤ most_lines → AreStated text most → IsRead text
+stated_read text most few known =
+    let whole : lines text ≡ known.each = ap lines (sym (append-nil text)) ∙ known.split [] ∙ append-nil known.each in
+    let said : statements text ≡ timed 1 0 known.each = sym (timed_all text) ∙ ap (timed 1 0) whole in
     record {
-      lines = timed 1 0 told.each;
-      read = (accepted_lem text (timed 1 0 told.each)).1 (record { bytes = omega (arith, few, told.short); lines = omega (arith, few, told.few, ap length whole) }, ap (position_from is_bad_line 1) whole ∙ none_bad 1 told.each told.told, sym said);
-      moments = all_now 1 told.each told.told;
-      timely = all_timely 1 told.each told.told;
+      lines = timed 1 0 known.each;
+      read = (accepted_lem text (timed 1 0 known.each)).1 (record { bytes = omega (arith, few, known.short); lines = omega (arith, few, known.few, ap length whole) }, ap (position_from is_bad_line 1) whole ∙ none_bad 1 known.each known.known, sym said);
+      moments = all_now 1 known.each known.known;
+      timely = all_timely 1 known.each known.known;
     }

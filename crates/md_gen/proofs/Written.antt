@@ -20,7 +20,7 @@ use Rattle.md_gen.specs.declared.kind.Kind.TheVariants.{Text, Json, Csv}
 use Rattle.md_gen.specs.Files.{ending, path}
 use Rattle.md_gen.specs.Reads.{IsTimely}
 use Rattle.md_gen.proofs.Paths.{NoDigit, IsPath-path, ending_none, ending_length}
-use Rattle.md_gen.proofs.Told.{IsTold, is_end}
+use Rattle.md_gen.proofs.Stated.{IsStated, is_end}
 
 -- a path that a script writes as it is
 pub record IsWritten (path : List ℕ) : Type 0 where
@@ -99,9 +99,9 @@ module _ (path : List ℕ) (written : IsWritten path) where
       let utf8 : is_utf8 path ≡ true = is_utf8-from_IsUtf8 path (IsUtf8-from_ascii path written.ascii) in
       rw (written.word, written.plain) (rw (utf8, written.good) (rw (written.normal) (rw (written.some) refl)))
 
-  told_path : (word : List ℕ) (what : What) → IsAscii word → list_any is_end word ≡ false → length word ≤ 20
-      → (is_utf8 (word ++ path) ≡ true → said (word ++ path) ≡ Some (meaning.Says what)) → IsTimely what → IsTold (word ++ path)
-  told_path word what ascii whole short says timely = record {
+  stated_path : (word : List ℕ) (what : What) → IsAscii word → list_any is_end word ≡ false → length word ≤ 20
+      → (is_utf8 (word ++ path) ≡ true → said (word ++ path) ≡ Some (meaning.Says what)) → IsTimely what → IsStated (word ++ path)
+  stated_path word what ascii whole short says timely = record {
     what = what;
     says = says (is_utf8-from_IsUtf8 (word ++ path) (IsUtf8-from_ascii (word ++ path) (IsAscii-append word path ascii written.ascii)));
     timely = timely;
@@ -109,10 +109,10 @@ module _ (path : List ℕ) (written : IsWritten path) where
     short = omega (arith, length-append word path, short, written.short);
   }
 
-  pub told_import : IsTold (codes "import" ++ codes " " ++ path)
+  pub stated_import : IsStated (codes "import" ++ codes " " ++ path)
   unfolding said says_nothing said_by first_word after_word command_of import_of
-  told_import = told_path (codes "import ") (what.Import path) (search rules) refl (omega arith) (λ utf8. rw utf8 (rw path_read refl)) tt
+  stated_import = stated_path (codes "import ") (what.Import path) (search rules) refl (omega arith) (λ utf8. rw utf8 (rw path_read refl)) tt
 
-  pub told_remove : IsTold (codes "remove" ++ codes " " ++ path)
+  pub stated_remove : IsStated (codes "remove" ++ codes " " ++ path)
   unfolding said says_nothing said_by first_word after_word command_of remove_of
-  told_remove = told_path (codes "remove ") (what.Remove path) (search rules) refl (omega arith) (λ utf8. rw utf8 (rw path_read refl)) tt
+  stated_remove = stated_path (codes "remove ") (what.Remove path) (search rules) refl (omega arith) (λ utf8. rw utf8 (rw path_read refl)) tt

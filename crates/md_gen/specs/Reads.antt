@@ -9,7 +9,7 @@ use Rattle.md_script.specs.Scripts.{verdict}
 use Rattle.md_words.specs.Grammar.{most_made}
 use Rattle.md_gen.specs.Scripts.{script}
 
--- the forms of time of a query's expression are in range, told from the moment 0 in UTC
+-- the forms of time of a query's expression are in range, resolved from the moment 0 in UTC
 abbrev pub IsTimely : What → Type 0
 IsTimely (what.Query client number expr scope order batch) = first_out_of_range (pos 0) (pos 0) expr ≡ None
 IsTimely _ = ⊤

@@ -17,7 +17,7 @@ stand_at p [] j d h lt = absurd (omega arith)
 stand_at p (r ∷ rows) zero d h lt = h.0
 stand_at p (r ∷ rows) (suc j) d h lt = stand_at p rows j d h.1 (omega arith)
 
--- the rows that stand before a path are at the front
+-- the rows that stand before a path are at the beginning
 pub parted : (p : PathBytes) (rows : List Row) → IsTable rows → IsPartitionedBy (λ (row : Row). is_before row.path p) rows
 parted p [] h i j d le lt e = absurd (omega arith)
 parted p (r ∷ rows) h zero zero d le lt e = e

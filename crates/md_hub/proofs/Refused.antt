@@ -17,7 +17,7 @@ use Rattle.md_machine.proofs.Joining.{last-join, replies-join}
 use Rattle.md_machine.proofs.Lists.{by_cond}
 use Rattle.md_world.specs.Differences.{items_of}
 use Rattle.md_hub.specs.Stepping.{IsAnswered, IsRefused, IsStep, is_memory}
-use Rattle.md_hub.specs.Told.{IsTold, answered, given}
+use Rattle.md_hub.specs.Received.{IsReceived, answered, given}
 
 -- the machine never answers want of memory
 abbrev IsMade : Reply → Type 0
@@ -97,39 +97,39 @@ answered-more (x ∷ events) (y ∷ replies) e r same =
       | false ↦ ap (λ (es : List Event). x ∷ es) (answered-more events replies e r (omega arith))
     ]
 
-module _ (limits : Limits) (events : List Event) (replies : List Reply) (s : State) (told : IsTold limits events replies s) (e : Event) (r : Reply) (new : State) where
+module _ (limits : Limits) (events : List Event) (replies : List Reply) (s : State) (received : IsReceived limits events replies s) (e : Event) (r : Reply) (new : State) where
   each_more : length (replies ++ r ∷ []) ≡ length (events ++ e ∷ [])
-  each_more = omega (arith, length-append replies (r ∷ []), length-append events (e ∷ []), told.each)
+  each_more = omega (arith, length-append replies (r ∷ []), length-append events (e ∷ []), received.each)
 
-  told_answered : IsAnswered s e r new → IsTold limits (events ++ e ∷ []) (replies ++ r ∷ []) new
-  told_answered a =
+  received_answered : IsAnswered s e r new → IsReceived limits (events ++ e ∷ []) (replies ++ r ∷ []) new
+  received_answered a =
       let made : is_memory r ≡ false = ap is_memory a.reply ∙ never_memory s e in
-      let more : answered (events ++ e ∷ []) (replies ++ r ∷ []) ≡ answered events replies ++ e ∷ [] = answered-more events replies e r told.each ∙ ap (λ b. answered events replies ++ cond b [] (e ∷ [])) made in
+      let more : answered (events ++ e ∷ []) (replies ++ r ∷ []) ≡ answered events replies ++ e ∷ [] = answered-more events replies e r received.each ∙ ap (λ b. answered events replies ++ cond b [] (e ∷ [])) made in
       record {
         each = each_more;
-        state = a.state ∙ ap (λ (x : State). (step x e).state) told.state ∙ sym (last-join _ (answered events replies) (e ∷ [])) ∙ ap (λ es. (run limits es).last) (sym more);
-        told =
+        state = a.state ∙ ap (λ (x : State). (step x e).state) received.state ∙ sym (last-join _ (answered events replies) (e ∷ [])) ∙ ap (λ es. (run limits es).last) (sym more);
+        received =
             filter-append (λ x. not (is_memory x)) replies (r ∷ [])
             ∙ ap (λ b. given replies ++ cond (not b) (r ∷ []) []) made
-            ∙ ap (λ (rs : List Reply). rs ++ r ∷ []) told.told
-            ∙ ap (λ (x : Reply). (run limits (answered events replies)).replies ++ x ∷ []) (a.reply ∙ ap (λ (x : State). (step x e).reply) told.state)
+            ∙ ap (λ (rs : List Reply). rs ++ r ∷ []) received.received
+            ∙ ap (λ (x : Reply). (run limits (answered events replies)).replies ++ x ∷ []) (a.reply ∙ ap (λ (x : State). (step x e).reply) received.state)
             ∙ sym (replies-join _ (answered events replies) (e ∷ []))
             ∙ ap (λ es. (run limits es).replies) (sym more);
       }
 
-  told_refused : IsRefused s e r new → IsTold limits (events ++ e ∷ []) (replies ++ r ∷ []) new
-  told_refused b =
+  received_refused : IsRefused s e r new → IsReceived limits (events ++ e ∷ []) (replies ++ r ∷ []) new
+  received_refused b =
       let gone : is_memory r ≡ true = ap is_memory b.reply in
-      let same : answered (events ++ e ∷ []) (replies ++ r ∷ []) ≡ answered events replies = answered-more events replies e r told.each ∙ ap (λ b. answered events replies ++ cond b [] (e ∷ [])) gone ∙ append-nil (answered events replies) in
+      let same : answered (events ++ e ∷ []) (replies ++ r ∷ []) ≡ answered events replies = answered-more events replies e r received.each ∙ ap (λ b. answered events replies ++ cond b [] (e ∷ [])) gone ∙ append-nil (answered events replies) in
       record {
         each = each_more;
-        state = b.state ∙ told.state ∙ ap (λ es. (run limits es).last) (sym same);
-        told =
+        state = b.state ∙ received.state ∙ ap (λ es. (run limits es).last) (sym same);
+        received =
             filter-append (λ x. not (is_memory x)) replies (r ∷ [])
             ∙ ap (λ b. given replies ++ cond (not b) (r ∷ []) []) gone
-            ∙ append-nil (given replies) ∙ told.told ∙ ap (λ es. (run limits es).replies) (sym same);
+            ∙ append-nil (given replies) ∙ received.received ∙ ap (λ es. (run limits es).replies) (sym same);
       }
 
   -- one more event and its reply
-  pub told_more : IsStep s e r new → IsTold limits (events ++ e ∷ []) (replies ++ r ∷ []) new
-  told_more h = elim h [ inl a ↦ told_answered a | inr b ↦ told_refused b ]
+  pub received_more : IsStep s e r new → IsReceived limits (events ++ e ∷ []) (replies ++ r ∷ []) new
+  received_more h = elim h [ inl a ↦ received_answered a | inr b ↦ received_refused b ]

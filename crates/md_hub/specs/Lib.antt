@@ -6,5 +6,5 @@ pub mod Stamps
 pub mod Stepping
 pub mod Sound
 pub mod Edits
-pub mod Told
+pub mod Received
 pub mod Given

@@ -1,6 +1,6 @@
 // A whole run over a list of events.
 ghost use Rattle.std.specs.Prelude.{◌≡◌, IfOk};
-ghost use Rattle.md_hub.specs.Told.{IsTold};
+ghost use Rattle.md_hub.specs.Received.{IsReceived};
 
 use crate::hub::Hub;
 use md_machine::{Event, Reply};
@@ -10,7 +10,7 @@ use std::alloc::{AllocError, Global};
 /// The server after these events, and the reply to each. An event that is answered `Memory` leaves no trace; the
 /// others are answered as if it had not come. Fails only where the replies find no memory.
 pub fn run(alloc: Global, limits: Limits, events: &[Event]) -> Result<(Hub, Vec<Reply>), AllocError>
-    ensures { IfOk result (λ r. IsTold limits events.now r.1.items r.0) }
+    ensures { IfOk result (λ r. IsReceived limits events.now r.1.items r.0) }
 {
     let mut hub = Hub::new(alloc, limits);
     let mut replies = Vec::new(alloc);

@@ -6,9 +6,9 @@ use Rattle.md_value.specs.Values.{PathBytes}
 use Rattle.md_value.specs.declared.fault.Fault.{Fault}
 use Rattle.md_source.specs.Tree.{Content}
 use Rattle.imp_kind.specs.Imports.{import}
-use Rattle.md_files.specs.Answers.{Answer, IsAsked, IsCounted, of_import, outcome}
-use Rattle.md_files.specs.Answers.Answer.{given, absent, failed}
-use Rattle.md_files.specs.declared.asking.Asked.{Asked}
+use Rattle.md_files.specs.Answers.{FileAnswer, IsAsked, IsCounted, of_import, outcome}
+use Rattle.md_files.specs.Answers.FileAnswer.{given, absent, failed}
+use Rattle.md_files.specs.declared.asking.ImportResult.{ImportResult}
 use Rattle.md_files.proofs.Counting.{counted_then, counted_same, counted_failed}
 use Rattle.md_script.specs.declared.script.Line.{Line}
 use Rattle.md_live.specs.Given.{imported_path, IsGivenBy, AreGiven, has_failed, failures}
@@ -17,28 +17,28 @@ import_counted : (before after : ℕ) (r : Result (List Attr) Fault) → after �
 import_counted before after (Ok attrs) kept = counted_same before after kept
 import_counted before after (Err fault) kept = counted_same before after kept
 
-first_failures : (o : Option Asked) (givens : List (Option Asked)) → failures (o ∷ []) + failures givens ≡ failures (o ∷ givens)
-first_failures o givens = sym (sum_by-append (λ (o : Option Asked). cond (has_failed o) 1 0) (o ∷ []) givens)
+first_failures : (o : Option ImportResult) (givens : List (Option ImportResult)) → failures (o ∷ []) + failures givens ≡ failures (o ∷ givens)
+first_failures o givens = sym (sum_by-append (λ (o : Option ImportResult). cond (has_failed o) 1 0) (o ∷ []) givens)
 
-module _ (offset : ℤ) (told : Option Content) (before after : ℕ) where
-  answer_counted : (path : PathBytes) (answer : Answer) → IsAsked told before after path answer → IsCounted before after (failures (Some (outcome offset answer) ∷ []))
+module _ (offset : ℤ) (known : Option Content) (before after : ℕ) where
+  answer_counted : (path : PathBytes) (answer : FileAnswer) → IsAsked known before after path answer → IsCounted before after (failures (Some (outcome offset answer) ∷ []))
   answer_counted path (given entry bytes) asked = import_counted before after (import entry bytes offset) asked.0
   answer_counted path absent asked = counted_same before after asked.0
   answer_counted path failed fails = counted_failed before after fails
 
-  given_counted : (path : Option PathBytes) (o : Option Asked) → IsGivenBy offset told before after path o → IsCounted before after (failures (o ∷ []))
+  given_counted : (path : Option PathBytes) (o : Option ImportResult) → IsGivenBy offset known before after path o → IsCounted before after (failures (o ∷ []))
   given_counted (Some path) (Some asked) gives =
-      subst (λ (a : Asked). IsCounted before after (failures (Some a ∷ []))) (sym gives.is) (answer_counted path gives.answer gives.answers)
+      subst (λ (a : ImportResult). IsCounted before after (failures (Some a ∷ []))) (sym gives.is) (answer_counted path gives.answer gives.answers)
   given_counted (Some path) None none = absurd none
   given_counted None (Some asked) none = absurd none
   given_counted None None kept = counted_same before after kept
 
 -- the askings of the files of all lines
-pub are_given_counted : (offset : ℤ) (told : Option Content) (before after : ℕ) (lines : List Line) (givens : List (Option Asked)) → AreGiven offset told before after lines givens
+pub are_given_counted : (offset : ℤ) (known : Option Content) (before after : ℕ) (lines : List Line) (givens : List (Option ImportResult)) → AreGiven offset known before after lines givens
     → IsCounted before after (failures givens)
-are_given_counted offset told before after [] [] kept = counted_same before after kept
-are_given_counted offset told before after [] (o ∷ givens) none = absurd none
-are_given_counted offset told before after (line ∷ lines) [] none = absurd none
-are_given_counted offset told before after (line ∷ lines) (o ∷ givens) turn =
+are_given_counted offset known before after [] [] kept = counted_same before after kept
+are_given_counted offset known before after [] (o ∷ givens) none = absurd none
+are_given_counted offset known before after (line ∷ lines) [] none = absurd none
+are_given_counted offset known before after (line ∷ lines) (o ∷ givens) turn =
     subst (IsCounted before after) (first_failures o givens)
-    (counted_then before turn.0 after (failures (o ∷ [])) (failures givens) (given_counted offset told before turn.0 (imported_path line.what) o turn.1) (are_given_counted offset told turn.0 after lines givens turn.2))
+    (counted_then before turn.0 after (failures (o ∷ [])) (failures givens) (given_counted offset known before turn.0 (imported_path line.what) o turn.1) (are_given_counted offset known turn.0 after lines givens turn.2))

@@ -5,12 +5,12 @@ use Rattle.md_value.specs.Values.{PathBytes}
 use Rattle.md_source.specs.Causes.{Rose}
 use Rattle.md_source.specs.Tree.{Content}
 use Rattle.imp_kind.specs.Imports.{import}
-use Rattle.md_files.specs.Answers.{Answer, IsAsked, Fails, outcome}
-use Rattle.md_files.specs.Answers.Answer.{given, absent, failed}
+use Rattle.md_files.specs.Answers.{FileAnswer, IsAsked, Fails, outcome}
+use Rattle.md_files.specs.Answers.FileAnswer.{given, absent, failed}
 use Rattle.md_files.specs.Findings.{Finding, is_failed, is_absent}
 use Rattle.md_files.specs.Findings.Finding.{named}
-use Rattle.md_files.specs.Reports.{Report, EndHasCause, tells_file}
-use Rattle.md_files.specs.declared.asking.Asked.{Asked}
+use Rattle.md_files.specs.Reports.{FileReport, EndHasCause, tells_file}
+use Rattle.md_files.specs.declared.asking.ImportResult.{ImportResult}
 use Rattle.md_files.specs.declared.report.End.TheVariants as ended
 use Rattle.md_files.proofs.Additions.{end_by}
 use Rattle.md_files.proofs.Causes.{quiet_named, there_named, and_false, not_true, is_absent_end, complete_end}
@@ -60,31 +60,31 @@ first_passes test (removal path) actions = refl
 first_passes test (query event) actions = refl
 first_passes test (show client number) actions = refl
 
--- whether a path, if there is one, is that of a file that is told
-abbrev is_told : Content → Option PathBytes → Bool
-is_told content None = true
-is_told content (Some path) = tells_file content path
+-- whether a path, if there is one, is that of a file that is known
+abbrev is_sent : Content → Option PathBytes → Bool
+is_sent content None = true
+is_sent content (Some path) = tells_file content path
 
-first_told : (content : Content) (line : Line) (lines : List Line) → tells_imports content (line ∷ lines) ≡ (is_told content (imported_path line.what) && tells_imports content lines)
-first_told content line lines =
-    elim (imported_path line.what) as (λ o. imported_path line.what ≡ o → tells_imports content (line ∷ lines) ≡ (is_told content o && tells_imports content lines)) [
+first_known : (content : Content) (line : Line) (lines : List Line) → tells_imports content (line ∷ lines) ≡ (is_sent content (imported_path line.what) && tells_imports content lines)
+first_known content line lines =
+    elim (imported_path line.what) as (λ o. imported_path line.what ≡ o → tells_imports content (line ∷ lines) ≡ (is_sent content o && tells_imports content lines)) [
       | None ↦ λ is. rw is refl
       | Some path ↦ λ is. rw is refl
     ] refl
 
 module _ (now offset : ℤ) where
-  module _ (told : Option Content) (before after : ℕ) where
-    asked_stands : (path : PathBytes) (answer : Answer) → IsAsked told before after path answer → Stands (is_failed (named path (outcome offset answer))) before after
+  module _ (known : Option Content) (before after : ℕ) where
+    asked_stands : (path : PathBytes) (answer : FileAnswer) → IsAsked known before after path answer → Stands (is_failed (named path (outcome offset answer))) before after
     asked_stands path (given entry bytes) asked = rw (quiet_named path (import entry bytes offset)) asked.0
     asked_stands path absent asked = asked.0
     asked_stands path failed fails = fails
 
     -- nothing is asked where no path is imported
-    unasked : (o : Option Asked) → IsGivenBy offset told before after None o → after ≡ before
+    unasked : (o : Option ImportResult) → IsGivenBy offset known before after None o → after ≡ before
     unasked None kept = kept
     unasked (Some asked) none = absurd none
 
-    given_stands : (ms : ℕ) (w : What) (o : Option Asked) → IsGivenBy offset told before after (imported_path w) o → Stands (passes is_failed (finding_of (action_at now offset ms w o))) before after
+    given_stands : (ms : ℕ) (w : What) (o : Option ImportResult) → IsGivenBy offset known before after (imported_path w) o → Stands (passes is_failed (finding_of (action_at now offset ms w o))) before after
     given_stands ms (what.Import path) (Some asked) gives = rw gives.is (asked_stands path gives.answer gives.answers)
     given_stands ms (what.Import path) None none = absurd none
     given_stands ms (what.Put path text) o kept =
@@ -98,82 +98,82 @@ module _ (now offset : ℤ) where
     given_stands ms (what.Stop client number) o kept = unasked o kept
     given_stands ms (what.Show client number) o kept = unasked o kept
 
-  all_stand : (told : Option Content) (before after : ℕ) (lines : List Line) (givens : List (Option Asked)) → AreGiven offset told before after lines givens
+  all_stand : (known : Option Content) (before after : ℕ) (lines : List Line) (givens : List (Option ImportResult)) → AreGiven offset known before after lines givens
       → Stands (list_any is_failed (filter_map finding_of (actions_of now offset lines givens))) before after
-  all_stand told before after [] [] kept = kept
-  all_stand told before after [] (o ∷ givens) none = absurd none
-  all_stand told before after (line ∷ lines) [] none = absurd none
-  all_stand told before after (line ∷ lines) (o ∷ givens) turn =
+  all_stand known before after [] [] kept = kept
+  all_stand known before after [] (o ∷ givens) none = absurd none
+  all_stand known before after (line ∷ lines) [] none = absurd none
+  all_stand known before after (line ∷ lines) (o ∷ givens) turn =
       rw (first_passes is_failed (action_of now offset line o) (actions_of now offset lines givens))
       (stands_then (passes is_failed (finding_of (action_of now offset line o))) (list_any is_failed (filter_map finding_of (actions_of now offset lines givens))) before turn.0 after
-      (given_stands told before turn.0 line.at_ms line.what o turn.1) (all_stand told turn.0 after lines givens turn.2))
+      (given_stands known before turn.0 line.at_ms line.what o turn.1) (all_stand known turn.0 after lines givens turn.2))
 
   module _ (content : Content) where
-    asked_untold : (before after : ℕ) (path : PathBytes) (answer : Answer) → IsAsked (Some content) before after path answer
+    asked_present : (before after : ℕ) (path : PathBytes) (answer : FileAnswer) → IsAsked (Some content) before after path answer
         → is_absent (named path (outcome offset answer)) ≡ true → tells_file content path ≡ false
-    asked_untold before after path (given entry bytes) asked is = absurd (not_true _ (there_named path (import entry bytes offset)) is)
-    asked_untold before after path absent asked is = rw asked.1 refl
-    asked_untold before after path failed fails is = cc
+    asked_present before after path (given entry bytes) asked is = absurd (not_true _ (there_named path (import entry bytes offset)) is)
+    asked_present before after path absent asked is = rw asked.1 refl
+    asked_present before after path failed fails is = cc
 
-    given_untold : (before after ms : ℕ) (w : What) (o : Option Asked) → IsGivenBy offset (Some content) before after (imported_path w) o
-        → passes is_absent (finding_of (action_at now offset ms w o)) ≡ true → is_told content (imported_path w) ≡ false
-    given_untold before after ms (what.Import path) (Some asked) gives is =
-        asked_untold before after path gives.answer gives.answers (ap (λ (a : Asked). is_absent (named path a)) (sym gives.is) ∙ is)
-    given_untold before after ms (what.Import path) None none is = absurd none
-    given_untold before after ms (what.Put path text) o kept is =
+    given_present : (before after ms : ℕ) (w : What) (o : Option ImportResult) → IsGivenBy offset (Some content) before after (imported_path w) o
+        → passes is_absent (finding_of (action_at now offset ms w o)) ≡ true → is_sent content (imported_path w) ≡ false
+    given_present before after ms (what.Import path) (Some asked) gives is =
+        asked_present before after path gives.answer gives.answers (ap (λ (a : ImportResult). is_absent (named path a)) (sym gives.is) ∙ is)
+    given_present before after ms (what.Import path) None none is = absurd none
+    given_present before after ms (what.Put path text) o kept is =
         absurd (not_true _ (there_named path (import (record { path = path; size = length text; changed = moment_of now ms }) text offset)) is)
-    given_untold before after ms (what.Remove path) o kept is = cc
-    given_untold before after ms (what.Query client number expr scope order batch) o kept is = cc
-    given_untold before after ms (what.Gather client number) o kept is = cc
-    given_untold before after ms (what.Poll client number) o kept is = cc
-    given_untold before after ms (what.Disable client number) o kept is = cc
-    given_untold before after ms (what.Enable client number) o kept is = cc
-    given_untold before after ms (what.Stop client number) o kept is = cc
-    given_untold before after ms (what.Show client number) o kept is = cc
+    given_present before after ms (what.Remove path) o kept is = cc
+    given_present before after ms (what.Query client number expr scope order batch) o kept is = cc
+    given_present before after ms (what.Gather client number) o kept is = cc
+    given_present before after ms (what.Poll client number) o kept is = cc
+    given_present before after ms (what.Disable client number) o kept is = cc
+    given_present before after ms (what.Enable client number) o kept is = cc
+    given_present before after ms (what.Stop client number) o kept is = cc
+    given_present before after ms (what.Show client number) o kept is = cc
 
-    all_untold : (before after : ℕ) (lines : List Line) (givens : List (Option Asked)) → AreGiven offset (Some content) before after lines givens
+    all_present : (before after : ℕ) (lines : List Line) (givens : List (Option ImportResult)) → AreGiven offset (Some content) before after lines givens
         → list_any is_absent (filter_map finding_of (actions_of now offset lines givens)) ≡ true → tells_imports content lines ≡ false
-    all_untold before after [] [] kept is = cc
-    all_untold before after [] (o ∷ givens) none is = absurd none
-    all_untold before after (line ∷ lines) [] none is = absurd none
-    all_untold before after (line ∷ lines) (o ∷ givens) turn is =
+    all_present before after [] [] kept is = cc
+    all_present before after [] (o ∷ givens) none is = absurd none
+    all_present before after (line ∷ lines) [] none is = absurd none
+    all_present before after (line ∷ lines) (o ∷ givens) turn is =
         let here = passes is_absent (finding_of (action_of now offset line o)) in
         let there = list_any is_absent (filter_map finding_of (actions_of now offset lines givens)) in
         let some : (here || there) ≡ true = sym (first_passes is_absent (action_of now offset line o) (actions_of now offset lines givens)) ∙ is in
-        let untold : (is_told content (imported_path line.what) && tells_imports content lines) ≡ false =
-        elim here as (λ b. here ≡ b → (is_told content (imported_path line.what) && tells_imports content lines) ≡ false) [
-          | true ↦ λ first. rw (given_untold before turn.0 line.at_ms line.what o turn.1 first) refl
+        let unstarted : (is_sent content (imported_path line.what) && tells_imports content lines) ≡ false =
+        elim here as (λ b. here ≡ b → (is_sent content (imported_path line.what) && tells_imports content lines) ≡ false) [
+          | true ↦ λ first. rw (given_present before turn.0 line.at_ms line.what o turn.1 first) refl
           | false ↦
               λ first.
-              and_false (is_told content (imported_path line.what)) (tells_imports content lines) (all_untold turn.0 after lines givens turn.2 (or_true here there some first))
+              and_false (is_sent content (imported_path line.what)) (tells_imports content lines) (all_present turn.0 after lines givens turn.2 (or_true here there some first))
         ] refl in
-        first_told content line lines ∙ untold
+        first_known content line lines ∙ unstarted
 
-module _ (before after : ℕ) (now offset : ℤ) (lines : List Line) (report : Report) where
-  pub runs_so : (told : Option Content) (givens : List (Option Asked)) → AreGiven offset told before after lines givens
-      → report ≡ report_of_actions (actions_of now offset lines givens) → Runs told before after now offset lines report
-  runs_so told givens gives is = record { givens = givens; given = gives; counted = are_given_counted offset told before after lines givens gives; is = is }
+module _ (before after : ℕ) (now offset : ℤ) (lines : List Line) (report : FileReport) where
+  pub runs_so : (known : Option Content) (givens : List (Option ImportResult)) → AreGiven offset known before after lines givens
+      → report ≡ report_of_actions (actions_of now offset lines givens) → Runs known before after now offset lines report
+  runs_so known givens gives is = record { givens = givens; given = gives; counted = are_given_counted offset known before after lines givens gives; is = is }
 
-  pub headline_so : (told : Option Content) → Runs told before after now offset lines report → Headline told before after now offset lines report
-  headline_so told runs = record { runs = runs; text = one_run (actions_of now offset lines runs.givens) report.out (ap (λ (r : Report). r.out) runs.is) }
+  pub headline_so : (known : Option Content) → Runs known before after now offset lines report → Headline known before after now offset lines report
+  headline_so known runs = record { runs = runs; text = one_run (actions_of now offset lines runs.givens) report.out (ap (λ (r : FileReport). r.out) runs.is) }
 
-  pub runs_cause : (told : Option Content) → Runs told before after now offset lines report → EndHasCause before after report.end
-  runs_cause told runs =
+  pub runs_cause : (known : Option Content) → Runs known before after now offset lines report → EndHasCause before after report.end
+  runs_cause known runs =
       rw runs.is
       (ended_so before after (list_any is_failed (filter_map finding_of (actions_of now offset lines runs.givens))) (list_any is_absent (filter_map finding_of (actions_of now offset lines runs.givens)))
-      (all_stand now offset told before after lines runs.givens runs.given))
+      (all_stand now offset known before after lines runs.givens runs.given))
 
-  runs_untold : (content : Content) → Runs (Some content) before after now offset lines report → report.end ≡ ended.Absent → tells_imports content lines ≡ false
-  runs_untold content runs is =
-      all_untold now offset content before after lines runs.givens runs.given
+  runs_present : (content : Content) → Runs (Some content) before after now offset lines report → report.end ≡ ended.Absent → tells_imports content lines ≡ false
+  runs_present content runs is =
+      all_present now offset content before after lines runs.givens runs.given
       (is_absent_end (list_any is_failed (filter_map finding_of (actions_of now offset lines runs.givens))) (list_any is_absent (filter_map finding_of (actions_of now offset lines runs.givens)))
-      (ap (λ (r : Report). r.end) (sym runs.is) ∙ is))
+      (ap (λ (r : FileReport). r.end) (sym runs.is) ∙ is))
 
-  pub runs_absent : (told : Option Content) → Runs told before after now offset lines report → IfSome told (λ content. report.end ≡ ended.Absent → tells_imports content lines ≡ false)
+  pub runs_absent : (known : Option Content) → Runs known before after now offset lines report → IfSome known (λ content. report.end ≡ ended.Absent → tells_imports content lines ≡ false)
   runs_absent None runs = tt
-  runs_absent (Some content) runs = runs_untold content runs
+  runs_absent (Some content) runs = runs_present content runs
 
-  pub runs_complete : (told : Option Content) → Runs told before after now offset lines report
-      → IfSome told (λ content. tells_imports content lines ≡ true → ¬ (Rose before after) → report.end ≡ ended.Ok)
+  pub runs_complete : (known : Option Content) → Runs known before after now offset lines report
+      → IfSome known (λ content. tells_imports content lines ≡ true → ¬ (Rose before after) → report.end ≡ ended.Ok)
   runs_complete None runs = tt
-  runs_complete (Some content) runs = λ told quiet. complete_end before after report.end (tells_imports content lines) (runs_cause (Some content) runs) (runs_untold content runs) told quiet
+  runs_complete (Some content) runs = λ known quiet. complete_end before after report.end (tells_imports content lines) (runs_cause (Some content) runs) (runs_present content runs) known quiet

@@ -15,7 +15,7 @@ use Rattle.md_live.specs.Actions.{Action}
 use Rattle.md_live.specs.Actions.Action.{job, removal, query, show}
 use Rattle.md_live.specs.Events.{events_of, events_from, entries_from, run_events}
 use Rattle.md_live.specs.Texts.{action_text, shown_text, text_from, run_text}
-use Rattle.md_live.specs.Headline.{entries_of, state_of, is_told, HoldsAnswer, GoesOn, IsShown, IsOneRun}
+use Rattle.md_live.specs.Headline.{entries_of, state_of, is_sent, HoldsAnswer, GoesOn, IsShown, IsOneRun}
 
 -- the state after all that is done, from a state on
 abbrev after : State → List Action → State
@@ -54,13 +54,13 @@ text_join all s (x ∷ xs) ys =
     ∙ ap (λ (es : List Entry). (action_text all s x ++ text_from here next xs) ++ text_from es (after next xs) ys) (with_more all s x xs)
     ∙ ap (λ (t : State). (action_text all s x ++ text_from here next xs) ++ text_from (with_entries all s (x ∷ xs)) t ys) (sym (last-join s more (events_from next xs)))
 
--- the text of one thing more that is told, before that of the rest
-told_then : (all : List Entry) (s : State) (x : Action) (xs : List Action)
-    → text_from (all ++ entries_from s (events_of s x)) (run_from s (events_of s x)).last (filter is_told xs)
+-- the text of one thing more that is known, before that of the rest
+known_then : (all : List Entry) (s : State) (x : Action) (xs : List Action)
+    → text_from (all ++ entries_from s (events_of s x)) (run_from s (events_of s x)).last (filter is_sent xs)
     ≡ journal_text (1 + length (all ++ entries_from s (events_of s x))) (entries_from (run_from s (events_of s x)).last (events_from (run_from s (events_of s x)).last xs))
-    → journal_text (1 + length all) (entries_from s (events_of s x)) ++ text_from (all ++ entries_from s (events_of s x)) (run_from s (events_of s x)).last (filter is_told xs)
+    → journal_text (1 + length all) (entries_from s (events_of s x)) ++ text_from (all ++ entries_from s (events_of s x)) (run_from s (events_of s x)).last (filter is_sent xs)
     ≡ journal_text (1 + length all) (entries_from s (events_from s (x ∷ xs)))
-told_then all s x xs rest =
+known_then all s x xs rest =
     let more = events_of s x in
     let next = (run_from s more).last in
     let first = entries_from s more in
@@ -71,15 +71,15 @@ told_then all s x xs rest =
     ∙ ap (journal_text (1 + length all)) (sym (entries-join s more (events_from next xs)))
 
 -- but for what is shown, the text is that of the entries
-told_text : (all : List Entry) (s : State) (actions : List Action) → text_from all s (filter is_told actions) ≡ journal_text (1 + length all) (entries_from s (events_from s actions))
-told_text all s [] = refl
-told_text all s (job path given ∷ actions) =
-    told_then all s (job path given) actions (told_text (all ++ entries_from s (events_of s (job path given))) (run_from s (events_of s (job path given))).last actions)
-told_text all s (removal path ∷ actions) =
-    told_then all s (removal path) actions (told_text (all ++ entries_from s (events_of s (removal path))) (run_from s (events_of s (removal path))).last actions)
-told_text all s (query event ∷ actions) =
-    told_then all s (query event) actions (told_text (all ++ entries_from s (event ∷ [])) (run_from s (event ∷ [])).last actions)
-told_text all s (show client number ∷ actions) = told_text all s actions
+known_text : (all : List Entry) (s : State) (actions : List Action) → text_from all s (filter is_sent actions) ≡ journal_text (1 + length all) (entries_from s (events_from s actions))
+known_text all s [] = refl
+known_text all s (job path given ∷ actions) =
+    known_then all s (job path given) actions (known_text (all ++ entries_from s (events_of s (job path given))) (run_from s (events_of s (job path given))).last actions)
+known_text all s (removal path ∷ actions) =
+    known_then all s (removal path) actions (known_text (all ++ entries_from s (events_of s (removal path))) (run_from s (events_of s (removal path))).last actions)
+known_text all s (query event ∷ actions) =
+    known_then all s (query event) actions (known_text (all ++ entries_from s (event ∷ [])) (run_from s (event ∷ [])).last actions)
+known_text all s (show client number ∷ actions) = known_text all s actions
 
 goes_on : (done : List Action) (action : Action) → GoesOn done action
 goes_on done action =
@@ -113,7 +113,7 @@ pub one_run : (actions : List Action) (text : List ℕ) → text ≡ run_text ac
 one_run actions text is =
     record {
       whole = is;
-      journal = λ done rest split. told_text [] (opening standard) done;
+      journal = λ done rest split. known_text [] (opening standard) done;
       goes_on = λ done rest action split. goes_on done action;
       shown = λ done rest q split live. is_shown done q live;
       follows = λ before rest q split live. holds_answer before q live;

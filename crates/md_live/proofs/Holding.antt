@@ -11,7 +11,7 @@ use Rattle.md_machine.specs.declared.Event.{Event}
 use Rattle.md_machine.specs.declared.Reply.{Reply}
 use Rattle.md_machine.specs.declared.Reply.TheVariants as reply
 use Rattle.md_machine.specs.States.{Query, query_at}
-use Rattle.md_machine.specs.Runs.{run, entries, told, taken_in, held}
+use Rattle.md_machine.specs.Runs.{run, entries, received, taken_in, held}
 use Rattle.md_machine.proofs.Law.{held_is_answer}
 use Rattle.md_machine.proofs.Queries.{key_of, found_key, own_place}
 use Rattle.md_hub.specs.Given.{given_by}
@@ -38,22 +38,22 @@ held_table rows (r ∷ replies) h = held_table (taken_in rows r) replies (taken_
 module _ (events : List Event) (client number : ℕ) where
   -- what the client holds is the hits given
   held_given : (q : Query) → query_at (run standard events).last.queries client number ≡ Some q
-      → held (told client number (entries standard events)) ≡ (given_by q).rows
+      → held (received client number (entries standard events)) ≡ (given_by q).rows
   held_given q found =
       let queries = (run standard events).last.queries in
       let all = entries standard events in
       let hits = (given_by q).rows in
       let key = key_of client number q (found_key queries client number q found) in
-      let own : held (told q.client q.number all) ≡ hits = held_is_answer standard events q (own_place queries client number q found) in
-      subst (λ c. held (told c number all) ≡ hits) key.0 (subst (λ n. held (told q.client n all) ≡ hits) key.1 own)
+      let own : held (received q.client q.number all) ≡ hits = held_is_answer standard events q (own_place queries client number q found) in
+      subst (λ c. held (received c number all) ≡ hits) key.0 (subst (λ n. held (received q.client n all) ≡ hits) key.1 own)
 
   -- the hits given, set one after the other, are what the client holds
   given_held : (q : Query) → query_at (run standard events).last.queries client number ≡ Some q
-      → with_rows [] (given_by q).rows ≡ held (told client number (entries standard events))
+      → with_rows [] (given_by q).rows ≡ held (received client number (entries standard events))
   given_held q found =
       let all = entries standard events in
-      subst (λ rows. with_rows [] rows ≡ held (told client number all)) (held_given q found)
-      (with_rows_append [] (held (told client number all)) (held_table [] (told client number all) tt))
+      subst (λ rows. with_rows [] rows ≡ held (received client number all)) (held_given q found)
+      (with_rows_append [] (held (received client number all)) (held_table [] (received client number all) tt))
 
   -- the client holds as many rows as hits were given
   pub counted_so : given_count (option_map given_by (query_at (run standard events).last.queries client number))

@@ -10,7 +10,7 @@ use Rattle.md_machine.specs.States.{Query, State}
 use Rattle.md_machine.specs.Runs.{Entry, run, entries}
 use Rattle.md_machine.specs.declared.Event.{Event}
 use Rattle.md_render.specs.Texts.{journal_text, held_text}
-use Rattle.md_files.specs.Reports.{Report}
+use Rattle.md_files.specs.Reports.{FileReport}
 use Rattle.md_script.specs.declared.script.Line.{Line}
 use Rattle.md_live.specs.Actions.{Action, actions_of}
 use Rattle.md_live.specs.Actions.Action.{show}
@@ -26,10 +26,10 @@ entries_of done = entries standard (run_events done)
 abbrev pub state_of : List Action → State
 state_of done = (run standard (run_events done)).last
 
--- whether the server is told of it: of all but the showing of what a client holds
-abbrev pub is_told : Action → Bool
-is_told (show client number) = false
-is_told _ = true
+-- whether the server gets it: of all but the showing of what a client holds
+abbrev pub is_sent : Action → Bool
+is_sent (show client number) = false
+is_sent _ = true
 
 -- After these events the client of a live query holds an answer.
 pub record HoldsAnswer (events : List Event) (q : Query) : Type 0 where
@@ -57,16 +57,16 @@ IsShown done q =
 -- The text is that of one run of the machine, over the events of what is done.
 pub record IsOneRun (actions : List Action) (text : List ℕ) : Type 0 where
   pub whole : text ≡ run_text actions
-  -- At each front of what is done the text, but for what is shown, is that of the run's entries so far.
-  pub journal : (done rest : List Action) → actions ≡ done ++ rest → run_text (filter is_told done) ≡ journal_text 1 (entries_of done)
+  -- At each prefix of what is done the text, but for what is shown, is that of the run's entries so far.
+  pub journal : (done rest : List Action) → actions ≡ done ++ rest → run_text (filter is_sent done) ≡ journal_text 1 (entries_of done)
   -- What is done next goes on with the run and with the text.
   pub goes_on : (done rest : List Action) (action : Action) → actions ≡ done ++ action ∷ rest → GoesOn done action
   -- What is shown of a live query is its answer.
   pub shown : (done rest : List Action) (q : Query) → actions ≡ done ++ show q.client q.number ∷ rest → IsLive standard (run_events done) q → IsShown done q
-  -- After each front of the events the client of each live query holds an answer.
+  -- After each prefix of the events the client of each live query holds an answer.
   pub follows : (before rest : List Event) (q : Query) → run_events actions ≡ before ++ rest → IsLive standard before q → HoldsAnswer before q
 
 -- The headline: the report is of a run of these lines, and its text for out is that of one run of the machine.
-pub record Headline (told : Option Content) (before after : ℕ) (now offset : ℤ) (lines : List Line) (report : Report) : Type 0 where
-  pub runs : Runs told before after now offset lines report
+pub record Headline (known : Option Content) (before after : ℕ) (now offset : ℤ) (lines : List Line) (report : FileReport) : Type 0 where
+  pub runs : Runs known before after now offset lines report
   pub text : IsOneRun (actions_of now offset lines runs.givens) report.out

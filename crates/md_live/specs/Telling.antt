@@ -1,4 +1,4 @@
--- A server with what is told of its run so far.
+-- A server with what is reported of its run so far.
 use Rattle.std.specs.Prelude.{ℕ, ◌+◌, ◌-◌, List, [], ◌∷◌, ◌++◌, length, map, fold, Option, None, Some}
 use Rattle.std.specs.Option.{option_map}
 use Rattle.md_world.specs.Holding.{with_rows}
@@ -14,7 +14,7 @@ use Rattle.md_render.specs.Texts.{journal_text, follower_text}
 use Rattle.md_notice.specs.Following.{Followed}
 use Rattle.md_files.specs.Additions.{no_report, noted}
 use Rattle.md_files.specs.Findings.Finding.{named}
-use Rattle.md_files.specs.Reports.{Report}
+use Rattle.md_files.specs.Reports.{FileReport}
 use Rattle.md_script.specs.declared.script.What.{What}
 use Rattle.md_script.specs.declared.script.What.TheVariants as what
 use Rattle.md_live.specs.Actions.{Action}
@@ -26,16 +26,16 @@ use Rattle.md_live.specs.declared.sums.Sum.{Sum}
 
 pub record Telling : Type 0 where
   pub state : State
-  pub report : Report  -- the text for out so far, the lines on files, and how their askings ended
+  pub report : FileReport  -- the text for out so far, the lines on files, and how their askings ended
   pub next : ℕ  -- the place of the next entry
   pub tally : Tally  -- what the notices so far come to
 
--- the opening state, and nothing told
-abbrev pub untold : Telling
-untold = record { state = opening standard; report = no_report; next = 1; tally = no_tally }
+-- the opening state, and nothing reported
+abbrev pub unstarted : Telling
+unstarted = record { state = opening standard; report = no_report; next = 1; tally = no_tally }
 
 -- with more text for out
-abbrev pub with_text : Report → List ℕ → Report
+abbrev pub with_text : FileReport → List ℕ → FileReport
 with_text report text = record report { out = report.out ++ text }
 
 -- after these events: the state that they lead to, their entries written, and their notices counted

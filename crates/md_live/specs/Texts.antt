@@ -3,7 +3,7 @@ use Rattle.std.specs.Prelude.{ℕ, ◌+◌, List, [], ◌∷◌, ◌++◌, lengt
 use Rattle.md_world.specs.Orders.{in_order}
 use Rattle.md_world.specs.Limits.{standard}
 use Rattle.md_machine.specs.States.{Query, State, opening, query_at}
-use Rattle.md_machine.specs.Runs.{Entry, run_from, told, held}
+use Rattle.md_machine.specs.Runs.{Entry, run_from, received, held}
 use Rattle.md_render.specs.Texts.{journal_text, held_text, unheld_text}
 use Rattle.md_live.specs.Actions.{Action}
 use Rattle.md_live.specs.Actions.Action.{show}
@@ -12,7 +12,7 @@ use Rattle.md_live.specs.Events.{events_of, entries_from}
 -- what the client of a live query holds by the entries so far, in the query's order; or that there is no such query
 abbrev pub shown_text : List Entry → ℕ → ℕ → Option Query → List ℕ
 shown_text entries client number None = unheld_text client number
-shown_text entries client number (Some q) = held_text client number q.base (in_order q.spec.order (held (told client number entries)))
+shown_text entries client number (Some q) = held_text client number q.base (in_order q.spec.order (held (received client number entries)))
 
 -- what is printed of what is done after these entries in a state: its own entries, or what a client holds
 abbrev pub action_text : List Entry → State → Action → List ℕ

@@ -9,7 +9,7 @@ use Rattle.md_script.specs.declared.script.What.TheVariants as what
 use Rattle.md_script.specs.declared.script.Line.{Line}
 use Rattle.md_live.specs.Moments.{moment_of}
 
--- the number of the first form of time of a line, from 1, whose moment is out of range, told from a moment at an offset; no number is above 2 ^ 32 - 1
+-- the number of the first form of time of a line, from 1, whose moment is out of range, resolved from a moment at an offset; no number is above 2 ^ 32 - 1
 abbrev pub form_out : ℤ → ℤ → What → Option ℕ
 form_out moment offset (what.Query client number expr scope order batch) = option_map capped (first_out_of_range moment offset expr)
 form_out moment offset _ = None

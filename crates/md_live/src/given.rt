@@ -3,7 +3,7 @@ ghost use Rattle.std.specs.Prelude.{◌≡◌, ◌≤◌, IfOk, Some};
 ghost use Rattle.md_files.specs.Answers.{Gives, IsAsked};
 ghost use Rattle.md_live.specs.Given.{IsGiven, AreGiven};
 
-use md_files::{Asked, ask_file};
+use md_files::{ImportResult, ask_file};
 use md_script::{Line, What};
 use md_source::Tree;
 use std::alloc::{AllocError, Global};
@@ -14,7 +14,7 @@ fn give<T: Tree>(
     tree: &mut T,
     offset: i32,
     line: &Line,
-) -> Result<Option<Asked>, AllocError>
+) -> Result<Option<ImportResult>, AllocError>
     ensures given { IfOk result (λ given. IsGiven offset (T.content tree.old) (T.faults tree.old) (T.faults tree.new) line.now given) }
     ensures later { T.faults tree.old ≤ T.faults tree.new }
     ensures content { T.content tree.new ≡ T.content tree.old }
@@ -32,7 +32,7 @@ pub fn give_all<T: Tree>(
     tree: &mut T,
     offset: i32,
     lines: &[Line],
-) -> Result<Vec<Option<Asked>>, AllocError>
+) -> Result<Vec<Option<ImportResult>>, AllocError>
     ensures given { IfOk result (λ givens. AreGiven offset (T.content tree.old) (T.faults tree.old) (T.faults tree.new) lines.now givens.items) }
     ensures later { T.faults tree.old ≤ T.faults tree.new }
     ensures content { T.content tree.new ≡ T.content tree.old }

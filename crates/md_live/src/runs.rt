@@ -8,11 +8,11 @@ ghost use Rattle.md_live.specs.Given.{tells_imports};
 ghost use Rattle.md_live.specs.Actions.{actions_of};
 ghost use Rattle.md_live.specs.Reports.{Runs, report_of_actions};
 ghost use Rattle.md_live.specs.Headline.{Headline};
-ghost use Rattle.md_live.specs.Telling.{after_actions, untold};
+ghost use Rattle.md_live.specs.Telling.{after_actions, unstarted};
 
 use crate::given::give_all;
 use crate::session::{Session, Setting};
-use md_files::{Asked, End, Report};
+use md_files::{End, FileReport, ImportResult};
 use md_script::Line;
 use md_source::Tree;
 use std::alloc::{AllocError, Global};
@@ -22,11 +22,11 @@ pub(crate) fn run_lines(
     alloc: Global,
     setting: &Setting,
     lines: &[Line],
-    givens: Vec<Option<Asked>>,
+    givens: Vec<Option<ImportResult>>,
 ) -> Result<Session, AllocError>
     requires few { length lines.now ≤ most_lines }
     requires moment { IsMoment setting.now.moment }
-    ensures { IfOk result (λ session. session ≡ after_actions untold (actions_of setting.now.moment setting.now.offset lines.now givens.items)) }
+    ensures { IfOk result (λ session. session ≡ after_actions unstarted (actions_of setting.now.moment setting.now.offset lines.now givens.items)) }
 {
     let mut session = Session::new(alloc);
     for (line, given) in lines.iter().zip(givens) {
@@ -40,8 +40,8 @@ fn run_given(
     alloc: Global,
     setting: &Setting,
     lines: &[Line],
-    givens: Vec<Option<Asked>>,
-) -> Result<Report, AllocError>
+    givens: Vec<Option<ImportResult>>,
+) -> Result<FileReport, AllocError>
     requires few { length lines.now ≤ most_lines }
     requires moment { IsMoment setting.now.moment }
     ensures { IfOk result (λ report. report ≡ report_of_actions (actions_of setting.now.moment setting.now.offset lines.now givens.items)) }
@@ -61,7 +61,7 @@ pub fn run<T: Tree>(
     now: i64,
     offset: i32,
     lines: &[Line],
-) -> Result<Report, AllocError>
+) -> Result<FileReport, AllocError>
     requires few { length lines.now ≤ most_lines }
     requires moment { IsMoment now }
     ensures runs { IfOk result (λ report. Runs (T.content tree.old) (T.faults tree.old) (T.faults tree.new) now offset lines.now report) }
@@ -71,7 +71,7 @@ pub fn run<T: Tree>(
     ensures later { T.faults tree.old ≤ T.faults tree.new }
     ensures content { T.content tree.new ≡ T.content tree.old }
 
-    // Where the content is told.
+    // Where the content is known.
     ensures absent { IfOk result (λ report. IfSome (T.content tree.old) (λ content.
         report.end ≡ End.Absent → tells_imports content lines.now ≡ false)) }
     ensures complete { IfOk result (λ report. IfSome (T.content tree.old) (λ content.

@@ -7,13 +7,13 @@ ghost use Rattle.md_live.specs.Actions as actions;
 ghost use Rattle.md_live.specs.Actions.Action.{job, show};
 ghost use Rattle.md_live.specs.Actions.{action_at};
 ghost use Rattle.md_live.specs.Events.{end_of, job_events};
-ghost use Rattle.md_live.specs.Telling.{Telling, untold, after_events, after_action, followed_in, asked_events, given_to, sum_so_far};
+ghost use Rattle.md_live.specs.Telling.{Telling, unstarted, after_events, after_action, followed_in, asked_events, given_to, sum_so_far};
 
 use crate::moments::moment_of;
 use crate::sums::Sum;
 use crate::tally::Tally;
 use md_expr_tree::Expr;
-use md_files::{Asked, Report, imported};
+use md_files::{FileReport, ImportResult, imported};
 use md_hub::Hub;
 use md_machine::{Batch, Event, Reply, Spec};
 use md_notice::Follower;
@@ -39,7 +39,7 @@ pub struct Setting {
 #[derive(Drop)]
 pub struct Session {
     hub: Hub,
-    report: Report,
+    report: FileReport,
     next: u64,
     tally: Tally,
 }
@@ -88,7 +88,7 @@ fn put_file(
     offset: i32,
     path: &Path,
     content: &Content,
-) -> Result<Asked, AllocError>
+) -> Result<ImportResult, AllocError>
     requires { IsMoment changed }
     ensures { IfOk result (λ given. given ≡ actions.put_file changed offset path.now content.now) }
 {
@@ -102,29 +102,29 @@ fn put_file(
 }
 
 // The change that a file makes: its attributes are put, and nothing else makes one.
-fn change_of(given: Asked) -> Option<Change>
+fn change_of(given: ImportResult) -> Option<Change>
     ensures { result ≡ actions.change_of given }
 {
     match given {
-        Asked::Attrs(attrs) => Some(Change::Put(attrs)),
+        ImportResult::Attrs(attrs) => Some(Change::Put(attrs)),
         _ => None,
     }
 }
 
 impl Session {
-    /// The opening state, and nothing told.
+    /// The opening state, and nothing reported.
     pub fn new(alloc: Global) -> Session
-        ensures { result ≡ untold }
+        ensures { result ≡ unstarted }
     {
         Session {
             hub: Hub::new(alloc, Limits::STANDARD),
-            report: Report::new(alloc),
+            report: FileReport::new(alloc),
             next: 1,
             tally: Tally::new(),
         }
     }
 
-    pub fn into_report(self) -> Report
+    pub fn into_report(self) -> FileReport
         ensures { result ≡ self.report }
     {
         self.report
@@ -134,7 +134,7 @@ impl Session {
     fn tell(&mut self, alloc: Global, event: &Event) -> Result<Reply, AllocError>
         requires { self.old.next + 1 < 2 ^ 64 }
         ensures reply { IfOk result (λ r. r ≡ (step self.old.state event.now).reply) }
-        ensures told { OnOk result (self.new ≡ after_events self.old (event.now ∷ [])) }
+        ensures known { OnOk result (self.new ≡ after_events self.old (event.now ∷ [])) }
     {
         let reply = self.hub.step(alloc, event);
         if let Reply::Memory = reply {
@@ -185,7 +185,7 @@ impl Session {
     }
 
     // Notes what became of a file, and runs its job.
-    fn file(&mut self, alloc: Global, path: &Path, given: Asked) -> Result<(), AllocError>
+    fn file(&mut self, alloc: Global, path: &Path, given: ImportResult) -> Result<(), AllocError>
         requires { self.old.next + 3 < 2 ^ 64 }
         ensures { OnOk result (self.new ≡ after_action self.old (job path.now given)) }
     {
@@ -263,7 +263,7 @@ impl Session {
         alloc: Global,
         setting: &Setting,
         line: &Line,
-        given: Option<Asked>,
+        given: Option<ImportResult>,
     ) -> Result<(), AllocError>
         requires room { self.old.next + 3 < 2 ^ 64 }
         requires moment { IsMoment setting.now.moment }
@@ -275,7 +275,7 @@ impl Session {
                 let given = put_file(alloc, moment, setting.offset, path, text)?;
                 self.file(alloc, path, given)
             }
-            What::Import { path } => self.file(alloc, path, given.unwrap_or(Asked::Absent)),
+            What::Import { path } => self.file(alloc, path, given.unwrap_or(ImportResult::Absent)),
             What::Remove { path } => self.job(alloc, path, Some(Change::Remove)),
             What::Query {
                 client,

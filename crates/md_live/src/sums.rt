@@ -10,7 +10,7 @@ use crate::given::give_all;
 use crate::runs::run_lines;
 use crate::session::Setting;
 use crate::tally::Tally;
-use md_files::Asked;
+use md_files::ImportResult;
 use md_script::Line;
 use md_source::Tree;
 use md_value::Items;
@@ -35,7 +35,7 @@ fn sum_given(
     alloc: Global,
     setting: &Setting,
     lines: &[Line],
-    givens: Vec<Option<Asked>>,
+    givens: Vec<Option<ImportResult>>,
     clients: &[u8],
 ) -> Result<Sum, AllocError>
     requires few { length lines.now ≤ most_lines }

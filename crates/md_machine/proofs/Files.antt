@@ -11,7 +11,7 @@ use Rattle.md_world.specs.Tables.{IsRowTable, has_path, at}
 use Rattle.md_match.specs.Conditions.{passes}
 use Rattle.md_world.specs.Differences.{items_of, was_other}
 use Rattle.md_world.proofs.Lookups.{by_test, some_inj}
-use Rattle.md_world.proofs.Tables.{rows_filter, rows_shown, rows_front, rows_back, rows_changed, rows_with_rows, rows_without_paths, rows_ascend}
+use Rattle.md_world.proofs.Tables.{rows_filter, rows_shown, rows_prefix, rows_back, rows_changed, rows_with_rows, rows_without_paths, rows_ascend}
 use Rattle.md_machine.specs.declared.Spec.{Spec}
 use Rattle.md_machine.specs.declared.Event.{Event}
 use Rattle.md_machine.specs.declared.Event.TheVariants as event
@@ -20,11 +20,11 @@ use Rattle.md_machine.specs.declared.Reply.TheVariants as reply
 use Rattle.md_machine.specs.Answers.{condition_of, answer, shown_answer, diff, notice_of}
 use Rattle.md_machine.specs.States.{Ticket, Stamp, Phase, Gathering, Finished, Query, State, opening, ticket_at, stamp_at, query_at, queries_of}
 use Rattle.md_machine.specs.Steps.{Outcome, Answered, step, commit, commit_over, close, create, outcome_of, stop, gather, gather_in, next_part, most_hits, disable, enable, enable_in, poll, poll_in, pending, is_due}
-use Rattle.md_machine.specs.Runs.{Past, grown, changed_by, past_of, tables_of, run_from, run, entries, versions, is_of, told_more, told_by, told, taken_in, held}
+use Rattle.md_machine.specs.Runs.{Past, grown, changed_by, past_of, tables_of, run_from, run, entries, versions, is_of, received_more, received_by, received, taken_in, held}
 use Rattle.md_machine.specs.Files.{IsNoRootDraw, DrawsNoRoot, NamesFiles, HandsOutFiles}
 use Rattle.md_machine.proofs.Lists.{by_cond, all_more}
 use Rattle.md_machine.proofs.Queries.{own_place}
-use Rattle.md_machine.proofs.Running.{Told, Good, told_then, step_good, opening_good}
+use Rattle.md_machine.proofs.Running.{Received, Good, received_then, step_good, opening_good}
 use Rattle.md_machine.proofs.Law.{good_at}
 
 -- ---- what is handed out of lists of files
@@ -37,7 +37,7 @@ shown_files : (spec : Spec) (rows : List Row) → IsRowTable rows → IsRowTable
 shown_files spec rows h = rows_shown (answer spec rows) (answer_files spec rows h)
 
 take_files : (n : ℕ) (rows : List Row) → IsRowTable rows → IsRowTable (take n rows)
-take_files n rows h = rows_front (take n rows) (drop n rows) (subst IsRowTable (sym (take-append-drop n rows)) h)
+take_files n rows h = rows_prefix (take n rows) (drop n rows) (subst IsRowTable (sym (take-append-drop n rows)) h)
 
 drop_files : (n : ℕ) (rows : List Row) → IsRowTable rows → IsRowTable (drop n rows)
 drop_files n rows h = rows_back (take n rows) (drop n rows) (subst IsRowTable (sym (take-append-drop n rows)) h)
@@ -170,18 +170,18 @@ all_get P (y ∷ xs) zero x h e = subst P (some_inj y x e) h.0
 all_get P (y ∷ xs) (suc i) x h e = all_get P xs i x h.1 e
 
 -- the tables of a state are among those of its past
-module _ (past : Past) (told_so : Told) (s : State) (good : Good past told_so s) (h : PastOfFiles past) where
+module _ (past : Past) (received_so : Received) (s : State) (good : Good past received_so s) (h : PastOfFiles past) where
   newest_files : IsRowTable s.table
   newest_files = subst IsRowTable good.newest h.newest
 
   bases_files : BasesAreFiles s
   bases_files q live = all_get IsRowTable (tables_of past) q.base q.rows (tables_files past h) (good.queries q live).of_base
 
-replies_files : (past : Past) (told_so : Told) (s : State) → Good past told_so s → PastOfFiles past → (events : List Event) → DrawsNoRoot events → AllByRecursion HandsOutFiles (run_from s events).replies
-replies_files past told_so s good h [] no_root = tt
-replies_files past told_so s good h (e ∷ events) no_root = (
-  step_shows s (newest_files past told_so s good h) (bases_files past told_so s good h) e,
-  replies_files (grown past (e, (step s e).reply)) (told_then told_so (e, (step s e).reply)) (step s e).state (step_good past told_so s good e)
+replies_files : (past : Past) (received_so : Received) (s : State) → Good past received_so s → PastOfFiles past → (events : List Event) → DrawsNoRoot events → AllByRecursion HandsOutFiles (run_from s events).replies
+replies_files past received_so s good h [] no_root = tt
+replies_files past received_so s good h (e ∷ events) no_root = (
+  step_shows s (newest_files past received_so s good h) (bases_files past received_so s good h) e,
+  replies_files (grown past (e, (step s e).reply)) (received_then received_so (e, (step s e).reply)) (step s e).state (step_good past received_so s good e)
       (grown_files past e (step s e).reply no_root.0 h) events no_root.1,
 )
 
@@ -216,17 +216,17 @@ taken_files rows (reply.Finished part base) f h = rows_with_rows rows part.hits 
 taken_files rows (reply.Notice notice) f h = rows_with_rows _ notice.added (rows_with_rows _ notice.changed (rows_without_paths rows notice.removed h) f.changed) f.added
 taken_files rows _ f h = h
 
-told_files : (replies : List Reply) (r : Reply) → HandsOutFiles r → IsRowTable (held replies) → IsRowTable (held (told_more replies r))
-told_files replies (reply.Created version) f h = (record { ordered = tt; no_root = tt })
-told_files replies r f h = subst IsRowTable (sym (fold-append taken_in [] replies (r ∷ []))) (taken_files (held replies) r f h)
+received_files : (replies : List Reply) (r : Reply) → HandsOutFiles r → IsRowTable (held replies) → IsRowTable (held (received_more replies r))
+received_files replies (reply.Created version) f h = (record { ordered = tt; no_root = tt })
+received_files replies r f h = subst IsRowTable (sym (fold-append taken_in [] replies (r ∷ []))) (taken_files (held replies) r f h)
 
 held_files : (c n : ℕ) (replies : List Reply) (events : List Event) (answers : List Reply) → AllByRecursion HandsOutFiles answers → IsRowTable (held replies)
-    → IsRowTable (held (fold (told_by c n) replies (zip events answers)))
+    → IsRowTable (held (fold (received_by c n) replies (zip events answers)))
 held_files c n replies [] answers f h = h
 held_files c n replies (e ∷ events) [] f h = h
 held_files c n replies (e ∷ events) (r ∷ answers) f h =
-    held_files c n (told_by c n replies (e, r)) events answers f.1
-    (by_cond (λ (rs : List Reply). IsRowTable (held rs)) (is_of c n e) _ _ (λ _. told_files replies r f.0 h) (λ _. h))
+    held_files c n (received_by c n replies (e, r)) events answers f.1
+    (by_cond (λ (rs : List Reply). IsRowTable (held rs)) (is_of c n e) _ _ (λ _. received_files replies r f.0 h) (λ _. h))
 
-pub held_of_files : (limits : Limits) (events : List Event) (client number : ℕ) → DrawsNoRoot events → IsRowTable (held (told client number (entries limits events)))
+pub held_of_files : (limits : Limits) (events : List Event) (client number : ℕ) → DrawsNoRoot events → IsRowTable (held (received client number (entries limits events)))
 held_of_files limits events client number no_root = held_files client number [] events (run limits events).replies (replies_of_files limits events no_root) (record { ordered = tt; no_root = tt })

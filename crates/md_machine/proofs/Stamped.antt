@@ -8,7 +8,7 @@ use Rattle.md_world.specs.declared.Row.{Row}
 use Rattle.md_world.specs.declared.Change.{Change}
 use Rattle.md_world.specs.Tables.{IsTable, at, has_path, without_path, after, same_row}
 use Rattle.md_world.specs.Differences.{was_other, difference, items_of}
-use Rattle.md_world.proofs.Lookups.{by_test, at_own, at_front, passing, table_filter, at_filter, at-without_path, at-after}
+use Rattle.md_world.proofs.Lookups.{by_test, at_own, at_prefix, passing, table_filter, at_filter, at-without_path, at-after}
 use Rattle.md_world.proofs.Tables.{table_without_path, table_after}
 use Rattle.md_world.proofs.Applied.{lists-paths_of, added_of, changed_of, is_removed, at-added, at-changed, lists-removed}
 use Rattle.md_machine.specs.declared.Spec.{Spec}
@@ -102,7 +102,7 @@ one_out (r ∷ rows) p h =
     let rest = one_out rows p h.1 in
     by_test (is_same r.path p)
     (λ e.
-    let none : at rows p ≡ None = subst (λ q. at rows q ≡ None) (same_exact r.path p e) (at_front r.path rows h.0) in
+    let none : at rows p ≡ None = subst (λ q. at rows q ≡ None) (same_exact r.path p e) (at_prefix r.path rows h.0) in
     let others : length rows ≤ length (without_path rows p) = let few = rw none at rest in omega arith in
     rw e (omega arith))
     (λ e. rw e (omega arith))

@@ -42,15 +42,15 @@ module _ (now offset : ℤ) where
       by_test (is_none (moment_of f now offset)) (λ e. rw e refl) (λ e. rw e (search_append (capped (seen + 1)) fs gs))
 
   -- the number that a search tells
-  abbrev pub told : Searched → Option ℕ
-  told (Out n) = Some n
-  told (InRange seen) = None
+  abbrev pub known : Searched → Option ℕ
+  known (Out n) = Some n
+  known (InRange seen) = None
 
-  told_first : (n : ℕ) (fs : List Form) → told (searched now offset (capped n) fs) ≡ option_map capped (first_out_from (n + 1) now offset fs)
-  told_first n [] = refl
-  told_first n (f ∷ fs) =
+  known_first : (n : ℕ) (fs : List Form) → known (searched now offset (capped n) fs) ≡ option_map capped (first_out_from (n + 1) now offset fs)
+  known_first n [] = refl
+  known_first n (f ∷ fs) =
       let once : capped (capped n + 1) ≡ capped (n + 1) = omega arith in
-      by_test (is_none (moment_of f now offset)) (λ e. rw (e, once) refl) (λ e. rw (e, once) (told_first (n + 1) fs))
+      by_test (is_none (moment_of f now offset)) (λ e. rw (e, once) refl) (λ e. rw (e, once) (known_first (n + 1) fs))
 
-  pub search_first : (e : Expr) → told (searched now offset 0 (forms e)) ≡ option_map capped (first_out_of_range now offset e)
-  search_first e = told_first 0 (forms e)
+  pub search_first : (e : Expr) → known (searched now offset 0 (forms e)) ≡ option_map capped (first_out_of_range now offset e)
+  search_first e = known_first 0 (forms e)

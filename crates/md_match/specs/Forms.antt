@@ -45,7 +45,7 @@ first_out_from n now offset (form ∷ fs) = if is_none (moment_of form now offse
 abbrev pub first_out_of_range : ℤ → ℤ → Expr → Option ℕ
 first_out_of_range now offset e = first_out_from 1 now offset (forms e)
 
--- a number, or the greatest one that is told
+-- a number, or the greatest one that is reported
 abbrev pub capped : ℕ → ℕ
 capped n = min n (2 ^ 32 - 1)
 

@@ -1,4 +1,4 @@
--- What a filter keeps of its expression, with the keys made and the moments told.
+-- What a filter keeps of its expression, with the keys made and the moments resolved.
 use Rattle.std.specs.Prelude.{ℕ, Bool, true, false, not, ◌&&◌, List, [], slice_get}
 use Rattle.std.specs.Option.{option_map_or}
 use Rattle.std.specs.List.{list_all, list_any}

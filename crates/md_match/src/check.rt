@@ -165,7 +165,7 @@ fn range(
 }
 
 impl Check {
-    /// The comparison of the test, with forms of time told from the local time.
+    /// The comparison of the test, with forms of time resolved from the local time.
     pub fn of(alloc: Global, test: &Test, local: &Local) -> Result<Check, AllocError>
         ensures { IfOk result (λ c. (attrs : List Attr) → check_holds c attrs ≡ holds local.now.moment local.now.offset test.now attrs) }
     {

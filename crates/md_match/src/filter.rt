@@ -21,7 +21,7 @@ pub struct Filter {
     expr: Expr,
     local: Local,
     scope: Path,
-    /// The expression with its keys made and its moments told.
+    /// The expression with its keys made and its moments resolved.
     ready: Ready,
 }
 
@@ -60,7 +60,7 @@ impl From<AllocError> for FilterError {
 }
 
 impl Filter {
-    /// The filter of the rows inside the scope that satisfy the expression, whose forms of time are told from `now`, in
+    /// The filter of the rows inside the scope that satisfy the expression, whose forms of time are resolved from `now`, in
     /// seconds since 1970 in UTC, at `offset`, the minutes by which local time is ahead of UTC.
     ///
     /// `TimeOutOfRange` comes exactly where the moment of some form is out of range.
@@ -121,7 +121,7 @@ impl Filter {
         &self.expr
     }
 
-    /// The moment from which forms of time are told. Takes no memory.
+    /// The moment from which forms of time are resolved. Takes no memory.
     pub fn now(&self) -> i64
         ensures { result ≡ self.now.moment }
     {

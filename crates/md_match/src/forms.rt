@@ -101,7 +101,7 @@ fn first_out(expr: &Expr, local: &Local) -> Option<u32>
     }
 }
 
-/// The number from 1, in reading order, of the first form of time whose moment is out of range, where the forms are told
+/// The number from 1, in reading order, of the first form of time whose moment is out of range, where the forms are resolved
 /// from `now`, in seconds since 1970 in UTC, at `offset`, the minutes by which local time is ahead of UTC. In place of a
 /// number over 4,294,967,295 it is that. Takes no memory.
 pub fn first_out_of_range(expr: &Expr, now: i64, offset: i32) -> Option<u32>

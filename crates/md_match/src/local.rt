@@ -1,6 +1,6 @@
 // Local time.
 
-/// The moment from which forms of time are told, and how far local time is ahead of UTC.
+/// The moment from which forms of time are resolved, and how far local time is ahead of UTC.
 #[derive(Clone, Copy, Debug, Drop)]
 pub struct Local {
     /// In seconds since 1970 in UTC.

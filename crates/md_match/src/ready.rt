@@ -12,7 +12,7 @@ use md_value::Attrs;
 use sqlite_items::{Boxed, Items};
 use std::alloc::{AllocError, Global};
 
-/// An expression with its keys made and its moments told.
+/// An expression with its keys made and its moments resolved.
 #[derive(Drop)]
 pub enum Ready {
     /// A comparison.
@@ -61,7 +61,7 @@ fn some_satisfied(alloc: Global, list: &[Ready], attrs: &Attrs) -> Result<bool, 
 }
 
 impl Ready {
-    /// The expression, with its forms of time told from the local time.
+    /// The expression, with its forms of time resolved from the local time.
     #[cycle(made)]
     pub fn of(alloc: Global, expr: &Expr, local: &Local) -> Result<Ready, AllocError>
         ensures { IfOk result (λ r. (attrs : List Attr) → is_satisfied r attrs ≡ satisfies local.now.moment local.now.offset expr.now attrs) }

@@ -14,7 +14,7 @@ use md_value::{Text, Value};
 use std::alloc::{AllocError, Global};
 use std::cmp::Ordering;
 
-/// A literal under an operator other than `!=`, with its keys made and its moment told.
+/// A literal under an operator other than `!=`, with its keys made and its moment resolved.
 #[derive(Drop)]
 pub enum Wanted {
     /// A text whose key matches the pattern.

@@ -1,3 +1,3 @@
 pub mod Brought
-pub mod Told
+pub mod Received
 pub mod Versions

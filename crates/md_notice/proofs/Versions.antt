@@ -21,13 +21,13 @@ use Rattle.md_machine.specs.declared.Reply.TheVariants as reply
 use Rattle.md_machine.specs.Answers.{shown_answer}
 use Rattle.md_machine.specs.States.{Ticket, Stamp, Phase, Gathering, Finished, Query, State, opening, ticket_at, stamp_at, is_query, query_at, with_query, queries_of}
 use Rattle.md_machine.specs.Steps.{Outcome, Answered, step, draw, commit, commit_over, close, create, new_query, outcome_of, stop, gather, gather_in, next_part, most_hits, disable, enable, enable_in, poll, poll_in, pending, is_due}
-use Rattle.md_machine.specs.Runs.{run_from, run, entries, is_of, told_more, told_by, told}
-use Rattle.md_machine.specs.Laws.{IsLive, told_to}
+use Rattle.md_machine.specs.Runs.{run_from, run, entries, is_of, received_more, received_by, received}
+use Rattle.md_machine.specs.Laws.{IsLive, received_to}
 use Rattle.md_machine.proofs.Lists.{by_cond}
 use Rattle.md_machine.proofs.Queries.{key_of, found_key, own_place, at_set, at_set_other, at_out_other}
-use Rattle.md_machine.proofs.Running.{Told, told_then}
-use Rattle.md_notice.specs.Following.{Followed, version_after, created_on, follower_told, GoesFrom}
-use Rattle.md_notice.proofs.Told.{told_shown}
+use Rattle.md_machine.proofs.Running.{Received, received_then}
+use Rattle.md_notice.specs.Following.{Followed, version_after, created_on, follower_received, GoesFrom}
+use Rattle.md_notice.proofs.Received.{received_shown}
 
 -- the version that a client speaks of after these replies
 abbrev spoken : List Reply → ℕ
@@ -39,7 +39,7 @@ IsLater (reply.Created version) = ⊥
 IsLater _ = Unit {0}
 
 module _ (replies : List Reply) where
-  later_more : (r : Reply) → IsLater r → told_more replies r ≡ replies ++ r ∷ []
+  later_more : (r : Reply) → IsLater r → received_more replies r ≡ replies ++ r ∷ []
   later_more (reply.Created version) h = absurd h
   later_more _ h = refl
 
@@ -49,7 +49,7 @@ created_same [] _ h = refl
 created_same (reply.Created version ∷ replies) r h = refl
 created_same (_ ∷ replies) r h = refl
 
-spoken_more : (replies : List Reply) (r : Reply) → IsLater r → spoken (told_more replies r) ≡ version_after (spoken replies) r
+spoken_more : (replies : List Reply) (r : Reply) → IsLater r → spoken (received_more replies r) ≡ version_after (spoken replies) r
 spoken_more replies r h =
     ap spoken (later_more replies r h)
     ∙ ap (λ version. fold version_after version (replies ++ r ∷ [])) (created_same replies r h)
@@ -100,8 +100,8 @@ module _ (s : State) (q : Query) where
       (λ _. record { client = refl; number = refl; later = tt; from = tt; to = refl }))
 
 -- each live query's client speaks of its base
-abbrev AreOfBase : Told → State → Type 0
-AreOfBase told_so s = (q : Query) → query_at s.queries q.client q.number ≡ Some q → spoken (told_so q.client q.number) ≡ q.base
+abbrev AreOfBase : Received → State → Type 0
+AreOfBase received_so s = (q : Query) → query_at s.queries q.client q.number ≡ Some q → spoken (received_so q.client q.number) ≡ q.base
 
 -- a reply that is not the first one, and no notice
 abbrev IsStill : Reply → Type 0
@@ -109,8 +109,8 @@ IsStill (reply.Created version) = ⊥
 IsStill (reply.Notice notice) = ⊥
 IsStill _ = Unit {0}
 
-still_told : (replies : List Reply) (r : Reply) → IsStill r → spoken (told_more replies r) ≡ spoken replies
-still_told replies r h = spoken_more replies r (later r h) ∙ same (spoken replies) r h
+still_received : (replies : List Reply) (r : Reply) → IsStill r → spoken (received_more replies r) ≡ spoken replies
+still_received replies r h = spoken_more replies r (later r h) ∙ same (spoken replies) r h
   where
     later : (r : Reply) → IsStill r → IsLater r
     later (reply.Created version) h = absurd h
@@ -128,14 +128,14 @@ or_none : (o : Option Query) → option_or o None ≡ o
 or_none None = refl
 or_none (Some x) = refl
 
-module _ (told_so : Told) (s : State) (at : AreOfBase told_so s) where
+module _ (received_so : Received) (s : State) (at : AreOfBase received_so s) where
   abbrev After : Event → Outcome → Type 0
-  After e o = AreOfBase (told_then told_so (e, o.reply)) o.state
+  After e o = AreOfBase (received_then received_so (e, o.reply)) o.state
 
   stays : (e : Event) (r : Reply) → IsStill r → After e (record { reply = r; state = s })
   stays e r still q live =
       by_test (is_of q.client q.number e)
-      (λ b. rw b (still_told (told_so q.client q.number) r still ∙ at q live))
+      (λ b. rw b (still_received (received_so q.client q.number) r still ∙ at q live))
       (λ b. rw b (at q live))
 
   draw_after : (path : List ℕ) → After (event.Draw path) (draw s path)
@@ -154,7 +154,7 @@ module _ (told_so : Told) (s : State) (at : AreOfBase told_so s) where
   close_after number (Some t) = at
 
   created_after : (c n : ℕ) (spec : Spec) → is_some (query_at s.queries c n) ≡ false → (w : Query) → query_at (s.queries ++ new_query s c n spec ∷ []) w.client w.number ≡ Some w
-      → spoken (told_then told_so (event.Create c n spec, reply.Created s.version) w.client w.number) ≡ w.base
+      → spoken (received_then received_so (event.Create c n spec, reply.Created s.version) w.client w.number) ≡ w.base
   created_after c n spec fresh w live =
       let new = new_query s c n spec in
       let found : option_or (query_at s.queries w.client w.number) (query_at (new ∷ []) w.client w.number) ≡ Some w =
@@ -180,7 +180,7 @@ module _ (told_so : Told) (s : State) (at : AreOfBase told_so s) where
 
   -- the queries after one of them answered
   answered_after : (e : Event) (c n : ℕ) → ((d m : ℕ) → is_of d m e ≡ (c == d) && (n == m)) → (a : Answered) (q : Query) → query_at s.queries c n ≡ Some q → Moves q a
-      → (w : Query) → query_at (with_query s.queries a.query) w.client w.number ≡ Some w → spoken (told_then told_so (e, a.reply) w.client w.number) ≡ w.base
+      → (w : Query) → query_at (with_query s.queries a.query) w.client w.number ≡ Some w → spoken (received_then received_so (e, a.reply) w.client w.number) ≡ w.base
   answered_after e c n of a q h moves w live =
       let key = key_of c n q (found_key s.queries c n q h) in
       let client : a.query.client ≡ c = moves.client ∙ key.0 in
@@ -198,10 +198,10 @@ module _ (told_so : Told) (s : State) (at : AreOfBase told_so s) where
       let same : a.query ≡ w = some_inj a.query w (sym stands ∙ live) in
       let asked : q.client ≡ w.client = sym moves.client ∙ its.0 in
       let numbered : q.number ≡ w.number = sym moves.number ∙ its.1 in
-      let before : spoken (told_so w.client w.number) ≡ q.base =
-      (λ i. spoken (told_so (sym asked i) (sym numbered i))) ∙ at q (own_place s.queries c n q h) in
+      let before : spoken (received_so w.client w.number) ≡ q.base =
+      (λ i. spoken (received_so (sym asked i) (sym numbered i))) ∙ at q (own_place s.queries c n q h) in
       let test : is_of w.client w.number e ≡ true = same_test ∙ b in
-      rw test (spoken_more (told_so w.client w.number) a.reply moves.later ∙ ap (λ version. version_after version a.reply) before ∙ moves.to ∙ ap (λ (x : Query). x.base) same))
+      rw test (spoken_more (received_so w.client w.number) a.reply moves.later ∙ ap (λ version. version_after version a.reply) before ∙ moves.to ∙ ap (λ (x : Query). x.base) same))
       (λ b.
       let test : is_of w.client w.number e ≡ false = same_test ∙ b in
       rw test (at w (sym (at_set_other s.queries a.query w.client w.number b) ∙ live)))
@@ -227,21 +227,21 @@ module _ (told_so : Told) (s : State) (at : AreOfBase told_so s) where
   step_after (event.Stop c n) = stop_after c n (query_at s.queries c n)
   step_after (event.Vacuum c) = at
 
-run_after : (told_so : Told) (s : State) → AreOfBase told_so s → (events : List Event) → AreOfBase (λ c n. fold (told_by c n) (told_so c n) (zip events (run_from s events).replies)) (run_from s events).last
-run_after told_so s at [] = at
-run_after told_so s at (e ∷ events) = run_after (told_then told_so (e, (step s e).reply)) (step s e).state (step_after told_so s at e) events
+run_after : (received_so : Received) (s : State) → AreOfBase received_so s → (events : List Event) → AreOfBase (λ c n. fold (received_by c n) (received_so c n) (zip events (run_from s events).replies)) (run_from s events).last
+run_after received_so s at [] = at
+run_after received_so s at (e ∷ events) = run_after (received_then received_so (e, (step s e).reply)) (step s e).state (step_after received_so s at e) events
 
 module _ (limits : Limits) (events : List Event) where
-  spoken_base : AreOfBase (λ c n. told c n (entries limits events)) (run limits events).last
+  spoken_base : AreOfBase (λ c n. received c n (entries limits events)) (run limits events).last
   spoken_base = run_after (λ _ _. []) (opening limits) (λ q h. cc) events
 
   -- a live query's follower is of its base
-  pub of_base : (q : Query) → IsLive limits events q → (follower_told q.spec.order (told_to limits events q)).version ≡ q.base
-  of_base q live = ap (λ (f : Followed). f.version) (told_shown q.spec.order (told_to limits events q)) ∙ spoken_base q live
+  pub of_base : (q : Query) → IsLive limits events q → (follower_received q.spec.order (received_to limits events q)).version ≡ q.base
+  of_base q live = ap (λ (f : Followed). f.version) (received_shown q.spec.order (received_to limits events q)) ∙ spoken_base q live
 
   module _ (client number : ℕ) where
     abbrev now_spoken : ℕ
-    now_spoken = spoken (told client number (entries limits events))
+    now_spoken = spoken (received client number (entries limits events))
 
     -- what a query answers goes from the version that its client speaks of
     answers_from : (c n : ℕ) → (c == client) && (n == number) ≡ true → (ask : Query → Answered) → ((q : Query) → Moves q (ask q))
@@ -254,7 +254,7 @@ module _ (limits : Limits) (events : List Event) where
         let asked : q.client ≡ client = key.0 ∙ eqb-true c client parts.0 in
         let numbered : q.number ≡ number = key.1 ∙ eqb-true n number parts.1 in
         let base : now_spoken ≡ q.base =
-        (λ i. spoken (told (sym asked i) (sym numbered i) (entries limits events))) ∙ spoken_base q (own_place queries c n q h) in
+        (λ i. spoken (received (sym asked i) (sym numbered i) (entries limits events))) ∙ spoken_base q (own_place queries c n q h) in
         subst (λ version. GoesFrom version (ask q).reply) (sym base) (moves q).from
 
     goes_from : (e : Event) → is_of client number e ≡ true → GoesFrom now_spoken (step (run limits events).last e).reply
@@ -276,7 +276,7 @@ module _ (limits : Limits) (events : List Event) where
 
     -- a notice goes from the version that the query's follower is of
     pub notices_from : (order : List SortKey) (e : Event) → is_of client number e ≡ true
-        → GoesFrom (follower_told order (told client number (entries limits events))).version (step (run limits events).last e).reply
+        → GoesFrom (follower_received order (received client number (entries limits events))).version (step (run limits events).last e).reply
     notices_from order e of =
         subst (λ version. GoesFrom version (step (run limits events).last e).reply)
-        (sym (ap (λ (f : Followed). f.version) (told_shown order (told client number (entries limits events))))) (goes_from e of)
+        (sym (ap (λ (f : Followed). f.version) (received_shown order (received client number (entries limits events))))) (goes_from e of)

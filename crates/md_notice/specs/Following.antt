@@ -14,7 +14,7 @@ use Rattle.md_machine.specs.declared.Reply.TheVariants as reply
 use Rattle.md_machine.specs.declared.Event.{Event}
 use Rattle.md_machine.specs.States.{Query}
 use Rattle.md_machine.specs.Runs.{held}
-use Rattle.md_machine.specs.Laws.{told_to}
+use Rattle.md_machine.specs.Laws.{received_to}
 
 -- the rows in their order, and the version that they are of
 pub record Followed : Type 0 where
@@ -51,8 +51,8 @@ created_on (reply.Created version ∷ replies) = version
 created_on _ = 0
 
 -- the follower of a query's client: it is of the version on which the query was created, and was given the replies in turn
-abbrev pub follower_told : List SortKey → List Reply → Followed
-follower_told order replies = fold with_reply (follower_of order (created_on replies)) replies
+abbrev pub follower_received : List SortKey → List Reply → Followed
+follower_received order replies = fold with_reply (follower_of order (created_on replies)) replies
 
 -- the same after one more reply: a query that is created has a new follower
 abbrev pub follower_next : List SortKey → Followed → Reply → Followed
@@ -80,7 +80,7 @@ GoesFrom version _ = Unit {0}
 
 -- the follower of a live query, which was given all replies to it
 abbrev pub follower_in : Limits → List Event → Query → Followed
-follower_in limits events q = follower_told q.spec.order (told_to limits events q)
+follower_in limits events q = follower_received q.spec.order (received_to limits events q)
 
 -- the values of the attribute of a name at a place
 abbrev pub values_in : Option Row → List ℕ → Option (List Value)

@@ -6,16 +6,16 @@ ghost use Rattle.md_machine.specs.declared.Event.{Event};
 ghost use Rattle.md_machine.specs.declared.Reply.{Reply};
 ghost use Rattle.md_machine.specs.States.{Query};
 ghost use Rattle.md_machine.specs.Steps.{step};
-ghost use Rattle.md_machine.specs.Runs.{run, entries, is_of, told, told_more};
+ghost use Rattle.md_machine.specs.Runs.{run, entries, is_of, received, received_more};
 ghost use Rattle.md_machine.specs.Laws.{IsLive};
-ghost use Rattle.md_notice.specs.Following.{follower_told, follower_next, follower_in, shown_of, GoesFrom};
+ghost use Rattle.md_notice.specs.Following.{follower_received, follower_next, follower_in, shown_of, GoesFrom};
 
 /// A follower that was given the replies to a query in turn shows exactly what its client holds, in the query's order.
 pub fn followers_show_held()
     // For all replies, in whatever order they come.
-    ensures shown { (order : List SortKey) (replies : List Reply) → follower_told order replies ≡ shown_of order replies }
+    ensures shown { (order : List SortKey) (replies : List Reply) → follower_received order replies ≡ shown_of order replies }
     // One more reply is taken as a follower takes it.
-    ensures next { (order : List SortKey) (replies : List Reply) (reply : Reply) → follower_told order (told_more replies reply) ≡ follower_next order (follower_told order replies) reply }
+    ensures next { (order : List SortKey) (replies : List Reply) (reply : Reply) → follower_received order (received_more replies reply) ≡ follower_next order (follower_received order replies) reply }
 {}
 
 /// For all limits and all events, a query's follower is of the version that the machine speaks of.
@@ -23,5 +23,5 @@ pub fn followers_are_of_base()
     // A live query's follower is of its base.
     ensures base { (limits : Limits) (events : List Event) (q : Query) → IsLive limits events q → (follower_in limits events q).version ≡ q.base }
     // The notice that comes next goes from the follower's version, so that the follower may take it.
-    ensures notices { (limits : Limits) (events : List Event) (client number : ℕ) (order : List SortKey) (e : Event) → is_of client number e ≡ true → GoesFrom (follower_told order (told client number (entries limits events))).version (step (run limits events).last e).reply }
+    ensures notices { (limits : Limits) (events : List Event) (client number : ℕ) (order : List SortKey) (e : Event) → is_of client number e ≡ true → GoesFrom (follower_received order (received client number (entries limits events))).version (step (run limits events).last e).reply }
 {}

@@ -22,7 +22,7 @@ names_more : (attrs : List Attr) (place : ℕ) (attr : Attr) → slice_get attrs
     → names_of (take (place + 1) attrs) ≡ names_of (take place attrs) ++ names_of (attr ∷ [])
 names_more attrs place attr is =
     let found : get_or attrs place attr ≡ attr = sym (unwrap_or-slice_get attrs place attr) ∙ ap (λ o. unwrap_or o attr) is in
-    ap (λ front. names_of front) (take_more attrs place attr (slice_get_within attrs place attr is) ∙ ap (λ a. take place attrs ++ a ∷ []) found)
+    ap (λ prefix. names_of prefix) (take_more attrs place attr (slice_get_within attrs place attr is) ∙ ap (λ a. take place attrs ++ a ∷ []) found)
     ∙ names_append (take place attrs) (attr ∷ [])
 
 -- one name more is listed
@@ -42,7 +42,7 @@ left_out attrs place attr found is content listed =
 
 -- there is nothing at the place
 pub past : (attrs : List Attr) (place : ℕ) → slice_get attrs place ≡ None → names_of (take place attrs) ≡ names_of (take (place + 1) attrs)
-past attrs place e = ap (λ (front : List Attr). names_of front) (same attrs place e)
+past attrs place e = ap (λ (prefix : List Attr). names_of prefix) (same attrs place e)
   where
     same : (xs : List Attr) (i : ℕ) → slice_get xs i ≡ None → take i xs ≡ take (i + 1) xs
     same [] i e = take_all i [] (omega arith) ∙ sym (take_all (i + 1) [] (omega arith))

@@ -16,6 +16,6 @@ escape b =
 unfoldable pub escaped : PathBytes → List ℕ
 escaped path = flat_map escape path
 
--- a path at the front of a line on what failed: the root, whose text is empty, is `.`
+-- a path at the beginning of a line on what failed: the root, whose text is empty, is `.`
 unfoldable pub shown_path : PathBytes → List ℕ
 shown_path path = if length path == 0 then codes "." else escaped path

@@ -39,7 +39,7 @@ pub fn escaped(alloc: Global, path: &Path) -> Result<String, AllocError>
     Ok(text)
 }
 
-/// Appends a path as it stands at the front of a line on what failed. Fails only where memory runs out.
+/// Appends a path as it stands at the beginning of a line on what failed. Fails only where memory runs out.
 #[tactic(auto, unfolding(crate::specs::Paths::shown_path))]
 pub fn push_shown(text: &mut String, path: &Path) -> Result<(), AllocError>
     ensures { OnOk result (string_bytes text.new ≡ string_bytes text.old ++ shown_path path.now) }
@@ -51,7 +51,7 @@ pub fn push_shown(text: &mut String, path: &Path) -> Result<(), AllocError>
     }
 }
 
-/// A path as it stands at the front of a line on what failed: with its escapes, and `.` for the root. Fails only where
+/// A path as it stands at the beginning of a line on what failed: with its escapes, and `.` for the root. Fails only where
 /// memory runs out.
 pub fn shown_path(alloc: Global, path: &Path) -> Result<String, AllocError>
     ensures { IfOk result (λ text. string_bytes text ≡ shown_path path.now) }

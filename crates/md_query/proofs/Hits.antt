@@ -21,8 +21,8 @@ hits_left given hits = drop-map (λ (hit : Bor Row). hit.now) given hits ∙ ap 
 pub hits_first : (given : ℕ) (hits : List (Bor Row)) → take given (rows_of hits) ≡ rows_of (take (min given (length hits)) hits)
 hits_first given hits = take-map (λ (hit : Bor Row). hit.now) given hits ∙ ap rows_of (sym (take_min given hits))
 
-pub shown_front : (most : ℕ) (hits : List (Bor Row)) → take most (map shown (rows_of hits)) ≡ map shown (rows_of (take most hits))
-shown_front most hits = take-map shown most (rows_of hits) ∙ ap (map shown) (take-map (λ (hit : Bor Row). hit.now) most hits)
+pub shown_prefix : (most : ℕ) (hits : List (Bor Row)) → take most (map shown (rows_of hits)) ≡ map shown (rows_of (take most hits))
+shown_prefix most hits = take-map shown most (rows_of hits) ∙ ap (map shown) (take-map (λ (hit : Bor Row). hit.now) most hits)
 
 pub shown_left : (given : ℕ) (rows : List Row) → drop given (map shown rows) ≡ map shown (drop given rows)
 shown_left given rows = drop-map shown given rows

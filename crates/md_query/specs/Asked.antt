@@ -10,7 +10,7 @@ use Rattle.md_query.specs.declared.asking.Effect.{Effect}
 use Rattle.md_query.specs.declared.asking.Effect.TheVariants as effect
 use Rattle.md_query.specs.Standings.{Standing}
 
--- a state of which only the limits and the newest version are told
+-- a state of which only the limits and the newest version are known
 abbrev pub newest_state : Limits → ℕ → List Row → State
 newest_state limits version table =
     record { limits = limits; version = version; table = table; drawn = 0; tickets = []; stamps = []; queries = [] }

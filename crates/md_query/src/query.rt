@@ -140,7 +140,7 @@ impl Query {
         Ok((Reply::Finished(part, self.base), Effect::Finish(now_ms)))
     }
 
-    #[tactic(auto, using(crate::proofs::Hits::shown_front))]
+    #[tactic(auto, using(crate::proofs::Hits::shown_prefix))]
     fn limited_part(
         &self,
         alloc: Global,

@@ -11,7 +11,7 @@ use Rattle.md_script.specs.declared.options.Choice.{Choice}
 use Rattle.md_script.specs.declared.options.Options.{Options}
 use Rattle.md_script.specs.Lines.{is_space, first_word, after_word, words_of, spaced}
 use Rattle.md_script.specs.Options.{choice_of, choices_of, are_allowed, together, is_where, asked_of, with_choice}
-use Rattle.md_script.proofs.Choosing.{taken, refused_front}
+use Rattle.md_script.proofs.Choosing.{taken, refused_prefix}
 
 -- what the words say after these options
 abbrev pub read_on : Options → List (List ℕ) → Option (Options × List ℕ)
@@ -59,7 +59,7 @@ shifted before c (Some cs) = ap (λ (all : List Choice). if are_allowed all then
 
 none_allowed : (before : List Choice) (more : Option (List Choice)) → are_allowed before ≡ false → None ≡ options_after before more
 none_allowed before None h = refl
-none_allowed before (Some cs) h = let all = refused_front before cs h in rw all refl
+none_allowed before (Some cs) h = let all = refused_prefix before cs h in rw all refl
 
 at_where : (before : List Choice) (w : List ℕ) (ws : List (List ℕ)) → is_where w ≡ true → are_allowed before ≡ true → read_on (together before) (w ∷ ws) ≡ asked_after before (w ∷ ws)
 at_where before w ws is h = rw (is, append-nil before, h) refl
@@ -110,7 +110,7 @@ with_space : (o : Options) (text : List ℕ) → position_or_len is_space text <
 unfolding first_word after_word
 with_space o text found =
     ap (read_on o) (slice_split_first is_space text 0 found)
-    ∙ ap (λ (after : List ℕ). let told : Option (Options × List ℕ) = if is_where (before_first is_space text) then Some (o, after) else option_and_then (λ c. option_and_then (λ (p : Options). read_on p (words_of (after_first is_space text))) (with_choice o c)) (choice_of (before_first is_space text)) in told)
+    ∙ ap (λ (after : List ℕ). let known : Option (Options × List ℕ) = if is_where (before_first is_space text) then Some (o, after) else option_and_then (λ c. option_and_then (λ (p : Options). read_on p (words_of (after_first is_space text))) (with_choice o c)) (choice_of (before_first is_space text)) in known)
     (join_with_byte-slice_split 32 (after_first is_space text))
 
 -- no word is read from an empty text

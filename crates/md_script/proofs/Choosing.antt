@@ -43,8 +43,8 @@ fewer kind most xs ys h =
     let all : count_in kind (xs ++ ys) ≡ count_in kind xs + count_in kind ys = ap length (filter_map-append kind xs ys) ∙ length-append (filter_map kind xs) (filter_map kind ys) in
     grind (arith, nat_tests, all, h)
 
-allowed_front : (xs ys : List Choice) → are_allowed (xs ++ ys) ≡ true → are_allowed xs ≡ true
-allowed_front xs ys h =
+allowed_prefix : (xs ys : List Choice) → are_allowed (xs ++ ys) ≡ true → are_allowed xs ≡ true
+allowed_prefix xs ys h =
     let a = by_kind (xs ++ ys) h in
     all_six _ _ _ _ _ _ (fewer scope_in 1 xs ys a.scope) (fewer first_in 1 xs ys a.first) (fewer progress_in 1 xs ys a.progress) (fewer update_in 1 xs ys a.update) (fewer ms_in 1 xs ys a.ms) (fewer key_in most_keys xs ys a.keys)
 
@@ -53,8 +53,8 @@ not_true true h = absurd (h refl)
 not_true false h = refl
 
 -- choices that are not allowed stay so
-pub refused_front : (xs ys : List Choice) → are_allowed xs ≡ false → are_allowed (xs ++ ys) ≡ false
-refused_front xs ys h = not_true (are_allowed (xs ++ ys)) (λ all. let front = allowed_front xs ys all in cc)
+pub refused_prefix : (xs ys : List Choice) → are_allowed xs ≡ false → are_allowed (xs ++ ys) ≡ false
+refused_prefix xs ys h = not_true (are_allowed (xs ++ ys)) (λ all. let prefix = allowed_prefix xs ys all in cc)
 
 -- one choice more
 

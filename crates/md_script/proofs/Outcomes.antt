@@ -37,9 +37,9 @@ last-one o (Some ms) = refl
 -- the moment after one line more
 moment-more : (before : List (List ℕ)) (l : List ℕ) → moment_after (before ++ l ∷ []) ≡ unwrap_or (moment_of (said l)) (moment_after before)
 moment-more before l =
-    let told = λ (line : List ℕ). moment_of (said line) in
-    ap (λ (moments : List ℕ). unwrap_or (last_or None moments) 0) (filter_map-append told before (l ∷ []))
-    ∙ ap (λ (o : Option ℕ). unwrap_or o 0) (last-append (filter_map told before) (cons_option (told l) []) None) ∙ last-one (last_or None (filter_map told before)) (told l)
+    let known = λ (line : List ℕ). moment_of (said line) in
+    ap (λ (moments : List ℕ). unwrap_or (last_or None moments) 0) (filter_map-append known before (l ∷ []))
+    ∙ ap (λ (o : Option ℕ). unwrap_or o 0) (last-append (filter_map known before) (cons_option (known l) []) None) ∙ last-one (last_or None (filter_map known before)) (known l)
 
 numbered_by : (o : Option Meaning) (n ms : ℕ) (rest : ℕ → List Line)
     → cons_option (option_map (λ (what : What). record { number = n; at_ms = ms; what = what }) (what_of o)) (rest (unwrap_or (moment_of o) ms)) ≡ timed_by o n ms rest

@@ -23,13 +23,13 @@ utf8_of false bs ts is = cc
 pub path_read : (bs ts path : List ℕ) → Some ts ≡ (if is_utf8 bs then Some bs else None) → is_bad ts ≡ false → path ≡ normal ts → Some path ≡ (if is_path bs then Some (normal bs) else None)
 unfolding is_path
 path_read bs ts path text good is =
-    let told = utf8_of (is_utf8 bs) bs ts text in
-    let good' : is_bad bs ≡ false = ap is_bad (sym told.1) ∙ good in
-    rw (told.0, good') (ap Some (is ∙ ap normal told.1))
+    let known = utf8_of (is_utf8 bs) bs ts text in
+    let good' : is_bad bs ≡ false = ap is_bad (sym known.1) ∙ good in
+    rw (known.0, good') (ap Some (is ∙ ap normal known.1))
 
 pub path_bad : (bs ts : List ℕ) → Some ts ≡ (if is_utf8 bs then Some bs else None) → is_bad ts ≡ true → None ≡ (if is_path bs then Some (normal bs) else None)
 unfolding is_path
 path_bad bs ts text bad =
-    let told = utf8_of (is_utf8 bs) bs ts text in
-    let bad' : is_bad bs ≡ true = ap is_bad (sym told.1) ∙ bad in
-    rw (told.0, bad') refl
+    let known = utf8_of (is_utf8 bs) bs ts text in
+    let bad' : is_bad bs ≡ true = ap is_bad (sym known.1) ∙ bad in
+    rw (known.0, bad') refl

@@ -75,18 +75,18 @@ too_long_lem bytes = (λ e. ltb-true most_bytes (length bytes) (long_of (nat_lt 
 
 pub too_many_lem : (bytes : List ℕ) → (verdict bytes ≡ Err TooManyLines) ↔ ((length bytes ≤ most_bytes) × (most_lines < length (lines bytes)))
 unfolding verdict
-too_many_lem bytes = (λ e. let told = many_of (nat_lt most_bytes (length bytes)) (nat_lt most_lines (length (lines bytes))) (first_bad bytes) (statements bytes) e in (ltb-false most_bytes (length bytes) told.0, ltb-true most_lines (length (lines bytes)) told.1), λ h. verdict-many bytes h.0 h.1)
+too_many_lem bytes = (λ e. let known = many_of (nat_lt most_bytes (length bytes)) (nat_lt most_lines (length (lines bytes))) (first_bad bytes) (statements bytes) e in (ltb-false most_bytes (length bytes) known.0, ltb-true most_lines (length (lines bytes)) known.1), λ h. verdict-many bytes h.0 h.1)
 
 pub bad_line_lem : (bytes : List ℕ) (n : ℕ) → (verdict bytes ≡ Err (BadLine n)) ↔ (IsShort bytes × (first_bad bytes ≡ Some n))
 unfolding verdict
-bad_line_lem bytes n = (λ e. let told = bad_of (nat_lt most_bytes (length bytes)) (nat_lt most_lines (length (lines bytes))) (first_bad bytes) (statements bytes) n e in (record { bytes = ltb-false most_bytes (length bytes) told.0; lines = ltb-false most_lines (length (lines bytes)) told.1 }, told.2), back)
+bad_line_lem bytes n = (λ e. let known = bad_of (nat_lt most_bytes (length bytes)) (nat_lt most_lines (length (lines bytes))) (first_bad bytes) (statements bytes) n e in (record { bytes = ltb-false most_bytes (length bytes) known.0; lines = ltb-false most_lines (length (lines bytes)) known.1 }, known.2), back)
   where
     back : IsShort bytes × (first_bad bytes ≡ Some n) → verdict bytes ≡ Err (BadLine n)
     back h = let long = not_below most_bytes (length bytes) h.0.bytes in let many = not_below most_lines (length (lines bytes)) h.0.lines in rw (long, many, h.1) refl
 
 pub accepted_lem : (bytes : List ℕ) (s : List Line) → (verdict bytes ≡ Ok s) ↔ (IsShort bytes × (first_bad bytes ≡ None) × (s ≡ statements bytes))
 unfolding verdict
-accepted_lem bytes s = (λ e. let told = said_of (nat_lt most_bytes (length bytes)) (nat_lt most_lines (length (lines bytes))) (first_bad bytes) (statements bytes) s e in (record { bytes = ltb-false most_bytes (length bytes) told.0; lines = ltb-false most_lines (length (lines bytes)) told.1 }, told.2, told.3), back)
+accepted_lem bytes s = (λ e. let known = said_of (nat_lt most_bytes (length bytes)) (nat_lt most_lines (length (lines bytes))) (first_bad bytes) (statements bytes) s e in (record { bytes = ltb-false most_bytes (length bytes) known.0; lines = ltb-false most_lines (length (lines bytes)) known.1 }, known.2, known.3), back)
   where
     back : IsShort bytes × (first_bad bytes ≡ None) × (s ≡ statements bytes) → verdict bytes ≡ Ok s
     back h = let long = not_below most_bytes (length bytes) h.0.bytes in let many = not_below most_lines (length (lines bytes)) h.0.lines in rw (long, many, h.1) (ap Ok (sym h.2))

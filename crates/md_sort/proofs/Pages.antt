@@ -13,10 +13,10 @@ use Rattle.std.proofs.lemmas.Option.{slice_get_past, slice_get_within, get_or_fr
 use Rattle.md_world.proofs.Lookups.{by_test}
 use Rattle.md_sort.specs.Pages.{Listed, slots_in, ArePages}
 
-get_front : (xs ys : List ℕ) (i : ℕ) → i < length xs → slice_get (xs ++ ys) i ≡ slice_get xs i
-get_front [] ys i lt = absurd (omega arith)
-get_front (x ∷ xs) ys zero lt = refl
-get_front (x ∷ xs) ys (suc i) lt = get_front xs ys i (omega arith)
+get_prefix : (xs ys : List ℕ) (i : ℕ) → i < length xs → slice_get (xs ++ ys) i ≡ slice_get xs i
+get_prefix [] ys i lt = absurd (omega arith)
+get_prefix (x ∷ xs) ys zero lt = refl
+get_prefix (x ∷ xs) ys (suc i) lt = get_prefix xs ys i (omega arith)
 
 get_back : (xs ys : List ℕ) (i : ℕ) → slice_get (xs ++ ys) (length xs + i) ≡ slice_get ys i
 get_back [] ys i = let none : length {A = ℕ} [] + i ≡ i = omega arith in ap (slice_get ys) none
@@ -45,7 +45,7 @@ past_page page pages k h =
 pub first_page : (page : Listed) (pages : List Listed) (k : ℕ) → k < 1024 → ArePages (page ∷ pages) → slice_get (slots_in (page ∷ pages)) k ≡ slice_get page.items k
 first_page page pages k lt h =
     full_or_last _ page pages h
-    (λ full. get_front page.items (slots_in pages) k (omega arith))
+    (λ full. get_prefix page.items (slots_in pages) k (omega arith))
     (λ short none. ap (λ xs. slice_get (page.items ++ xs) k) none ∙ ap (λ xs. slice_get xs k) (append-nil page.items))
 
 pub no_page : (pages : List Listed) (i r : ℕ) → ArePages pages → slice_get pages i ≡ None → slice_get (slots_in pages) (i * 1024 + r) ≡ None

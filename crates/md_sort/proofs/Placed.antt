@@ -154,7 +154,7 @@ module _ (order : List SortKey) where
       let rest = all_implied _ _ (λ v k. row_before_trans order r w v after k) rows h.0 in
       rw (e, none_before r rows rest, all_after r rows rest) refl)
 
-  -- the rows that stand before one are at the front
+  -- the rows that stand before one are at the beginning
   pub parted : (r : Row) (rows : List Row) → IsOrdered order rows → IsPartitionedBy (before r) rows
   parted r [] h i j d le lt e = absurd (omega arith)
   parted r (w ∷ rows) h zero zero d le lt e = e

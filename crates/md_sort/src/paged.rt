@@ -48,7 +48,7 @@ fn add_pages(pages: &mut Vec<Page>, count: usize) -> Result<(), AllocError>
     Ok(())
 }
 
-// Inserts a slot at a place. The last slot of a full page goes to the front of the next page.
+// Inserts a slot at a place. The last slot of a full page goes to the beginning of the next page.
 fn insert_in(pages: &mut [Page], place: usize, slot: usize)
     requires pages { ArePages pages.old }
     requires place { place ≤ length (slots_in pages.old) }
@@ -184,7 +184,7 @@ impl SlotList {
         Some(slot)
     }
 
-    /// How many slots at the front pass, where no slot that passes stands after one that does not.
+    /// How many slots at the beginning pass, where no slot that passes stands after one that does not.
     pub fn partition_point<P: Fn(usize) -> bool>(&self, passes: P) -> usize
         requires { P.IsAlwaysCallable passes }
         ensures bound { result ≤ length self.now.items }

@@ -19,7 +19,7 @@ pub trait Clock {
     /// The moment now, in seconds since 1970 in UTC.
     fn now(&mut self) -> Result<i64, Failed>
         ensures range { IfOk result IsMoment }
-        ensures told { IfOk result (λ now. IfSome (moment self.old) (λ told. now ≡ told)) }
+        ensures known { IfOk result (λ now. IfSome (moment self.old) (λ known. now ≡ known)) }
         ensures moment { moment self.new ≡ moment self.old }
         ensures cause { HasCause (faults self.old) (faults self.new) result };
 }

@@ -202,7 +202,7 @@ impl<R: Files + AllocGlobal + Clone + Drop> Tree for Folder<R> {
 
     fn read(&mut self, alloc: Global, path: &Path, most: usize) -> Result<Vec<u8>, ReadEnd> {
         match self.open(path) {
-            Ok(file) => match read_front(alloc, file, most) {
+            Ok(file) => match read_prefix(alloc, file, most) {
                 Ok(bytes) => Ok(bytes),
                 Err(SourceEnd::Memory) => Err(ReadEnd::Memory),
                 Err(SourceEnd::Failed) => {
@@ -216,7 +216,11 @@ impl<R: Files + AllocGlobal + Clone + Drop> Tree for Folder<R> {
 }
 
 // The first bytes of a reader, at most so many.
-fn read_front<F: io::Read + Drop>(alloc: Global, file: F, most: usize) -> Result<Vec<u8>, SourceEnd>
+fn read_prefix<F: io::Read + Drop>(
+    alloc: Global,
+    file: F,
+    most: usize,
+) -> Result<Vec<u8>, SourceEnd>
     ensures { IfOk result (λ bytes. vec_len bytes ≤ most) }
 {
     if most == 0 {

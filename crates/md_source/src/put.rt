@@ -45,7 +45,7 @@ pub fn put_texts<E: Sink, K: Sink>(
     ensures whole_out { OnOk result (PutsWhole (K.taken out.old) (K.taken out.new)
         (K.faults out.old) (K.faults out.new) out_text.now) }
 
-    // A front of the text for err stands and nothing of the other, or all of it and a front of the other.
+    // A prefix of the text for err stands and nothing of the other, or all of it and a prefix of the other.
     ensures part { IsErrOf result PutEnd.Failed
         → (PutsPart (E.taken err.old) (E.taken err.new) (E.faults err.old) (E.faults err.new) err_text.now
         × PutsNothing (K.taken out.old) (K.taken out.new) (K.faults out.old) (K.faults out.new))

@@ -127,7 +127,7 @@ impl Tree for SureTree {
             return Err(ReadEnd::Absent);
         };
         let count = most.min(bytes.len());
-        let front = Vec::from_slice(alloc, &bytes.as_slice()[..count])?;
-        Ok(front)
+        let prefix = Vec::from_slice(alloc, &bytes.as_slice()[..count])?;
+        Ok(prefix)
     }
 }

@@ -60,10 +60,10 @@ pub trait Tree {
         ensures cause { ListHasCause (faults self.old) (faults self.new) result }
         ensures content { content self.new ≡ content self.old }
 
-        // Where the content is told.
-        ensures folder { IfOk result (λ entries. IfSome (content self.old) (λ told. has_folder told.folders folder.now ≡ true)) }
-        ensures entries { IfOk result (λ entries. IfSome (content self.old) (λ told. IsPermutation (entries_below told.files folder.now) entries.items)) }
-        ensures absent { IsErrOf result ListEnd.Absent → IfSome (content self.old) (λ told. has_folder told.folders folder.now ≡ false) };
+        // Where the content is known.
+        ensures folder { IfOk result (λ entries. IfSome (content self.old) (λ known. has_folder known.folders folder.now ≡ true)) }
+        ensures entries { IfOk result (λ entries. IfSome (content self.old) (λ known. IsPermutation (entries_below known.files folder.now) entries.items)) }
+        ensures absent { IsErrOf result ListEnd.Absent → IfSome (content self.old) (λ known. has_folder known.folders folder.now ≡ false) };
 
     /// The entry of a file.
     fn find(&mut self, alloc: Global, path: &Path) -> Result<Entry, ReadEnd>
@@ -72,9 +72,9 @@ pub trait Tree {
         ensures cause { ReadHasCause (faults self.old) (faults self.new) result }
         ensures content { content self.new ≡ content self.old }
 
-        // Where the content is told.
-        ensures entry { IfOk result (λ entry. IfSome (content self.old) (λ told. entry_at told.files path.now ≡ Some entry)) }
-        ensures absent { IsErrOf result ReadEnd.Absent → IfSome (content self.old) (λ told. file_at told.files path.now ≡ None) };
+        // Where the content is known.
+        ensures entry { IfOk result (λ entry. IfSome (content self.old) (λ known. entry_at known.files path.now ≡ Some entry)) }
+        ensures absent { IsErrOf result ReadEnd.Absent → IfSome (content self.old) (λ known. file_at known.files path.now ≡ None) };
 
     /// The first bytes of a file, at most so many, or all where there are fewer.
     fn read(&mut self, alloc: Global, path: &Path, most: usize) -> Result<Vec<u8>, ReadEnd>
@@ -82,7 +82,7 @@ pub trait Tree {
         ensures cause { ReadHasCause (faults self.old) (faults self.new) result }
         ensures content { content self.new ≡ content self.old }
 
-        // Where the content is told.
-        ensures bytes { IfOk result (λ bytes. IfSome (content self.old) (λ told. bytes_at told.files path.now most ≡ Some bytes.items)) }
-        ensures absent { IsErrOf result ReadEnd.Absent → IfSome (content self.old) (λ told. file_at told.files path.now ≡ None) };
+        // Where the content is known.
+        ensures bytes { IfOk result (λ bytes. IfSome (content self.old) (λ known. bytes_at known.files path.now most ≡ Some bytes.items)) }
+        ensures absent { IsErrOf result ReadEnd.Absent → IfSome (content self.old) (λ known. file_at known.files path.now ≡ None) };
 }

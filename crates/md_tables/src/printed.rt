@@ -22,7 +22,7 @@ pub fn attributes(alloc: Global, fields: &[Field]) -> Result<String, RowError> {
     Ok(attrs_text(alloc, &attrs, &asked, raw, marker.text()?)?)
 }
 
-/// A path: how it stands at the front of a line.
+/// A path: how it stands at the beginning of a line.
 pub fn path(alloc: Global, fields: &[Field]) -> Result<String, RowError> {
     let [path] = fields else {
         return Err(RowError::Count);

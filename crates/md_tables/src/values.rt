@@ -43,13 +43,13 @@ pub fn puts(alloc: Global, fields: &[Field]) -> Result<String, RowError> {
         return Err(RowError::Count);
     };
     let mut attrs = Attrs::new(alloc);
-    let mut told = String::new(alloc);
+    let mut known = String::new(alloc);
     for attribute in written.text()?.split_terminator(';') {
-        told.push_str(put(alloc, &mut attrs, attribute)?)?;
-        told.push(' ')?;
+        known.push_str(put(alloc, &mut attrs, attribute)?)?;
+        known.push(' ')?;
     }
-    told.push_str(&shown_attributes(alloc, &attrs)?)?;
-    Ok(told)
+    known.push_str(&shown_attributes(alloc, &attrs)?)?;
+    Ok(known)
 }
 
 fn kind_word(kind: Kind) -> &'static str {

@@ -9,15 +9,15 @@ use Rattle.md_text.specs.Wild.{interleaved, IsMatch, some_end, wild}
 
 -- the list or an end of it has the property
 abbrev pub HasEnd : (List ℕ → Type 0) → List ℕ → Type 0
-HasEnd P s = (front : List ℕ) × (rest : List ℕ) × (s ≡ front ++ rest) × P rest
+HasEnd P s = (prefix : List ℕ) × (rest : List ℕ) × (s ≡ prefix ++ rest) × P rest
 
-HasEnd-nil : (P : List ℕ → Type 0) (front rest : List ℕ) → [] ≡ front ++ rest → P rest → P []
+HasEnd-nil : (P : List ℕ → Type 0) (prefix rest : List ℕ) → [] ≡ prefix ++ rest → P rest → P []
 HasEnd-nil P [] rest e p = subst P (sym e) p
-HasEnd-nil P (x ∷ front) rest e p = cc
+HasEnd-nil P (x ∷ prefix) rest e p = cc
 
-HasEnd-cons : (P : List ℕ → Type 0) (c : ℕ) (cs front rest : List ℕ) → c ∷ cs ≡ front ++ rest → P rest → P (c ∷ cs) ⊎ HasEnd P cs
+HasEnd-cons : (P : List ℕ → Type 0) (c : ℕ) (cs prefix rest : List ℕ) → c ∷ cs ≡ prefix ++ rest → P rest → P (c ∷ cs) ⊎ HasEnd P cs
 HasEnd-cons P c cs [] rest e p = inl (subst P (sym e) p)
-HasEnd-cons P c cs (x ∷ front) rest e p = let tail : cs ≡ front ++ rest = cc in inr (front, rest, tail, p)
+HasEnd-cons P c cs (x ∷ prefix) rest e p = let tail : cs ≡ prefix ++ rest = cc in inr (prefix, rest, tail, p)
 
 HasEnd-from : (P : List ℕ → Type 0) (c : ℕ) (cs : List ℕ) → P (c ∷ cs) ⊎ HasEnd P cs → HasEnd P (c ∷ cs)
 HasEnd-from P c cs (inl p) = ([], c ∷ cs, refl, p)

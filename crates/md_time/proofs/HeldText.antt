@@ -74,10 +74,10 @@ length-iso t h = elim (or_cases (is_date_text t) (is_full_text t) h) [
 
 pub held : (t : List ℕ) → is_iso t ≡ true → IsUtf8 t → IsHeld (t ++ drop (length t) (replicate 25 0)) (length t)
 held t iso utf8 =
-    let front : take (length t) (t ++ drop (length t) (replicate 25 0)) ≡ t = take-append_seam _ _ in
+    let prefix : take (length t) (t ++ drop (length t) (replicate 25 0)) ≡ t = take-append_seam _ _ in
     record {
-      len_is = ap length front;
-      bytes_are = rw front (ap (λ zeros. t ++ zeros) (sym (drop-replicate (length t) 25 0)));
-      iso = rw front iso;
-      utf8 = rw front utf8;
+      len_is = ap length prefix;
+      bytes_are = rw prefix (ap (λ zeros. t ++ zeros) (sym (drop-replicate (length t) 25 0)));
+      iso = rw prefix iso;
+      utf8 = rw prefix utf8;
     }

@@ -8,7 +8,7 @@ use crate::days::{day_of, first_second, monday_of, month_number, month_start, ye
 use crate::iso_moment::iso_moment_in_range;
 use crate::range::{local_second, to_moment};
 
-/// A time form: a moment that is told from the local time of now, or by a text.
+/// A time form: a moment that is resolved from the local time of now, or by a text.
 #[derive(Clone, Copy, Debug, PartialEq, Eq)]
 pub enum Form {
     /// So many seconds after now.

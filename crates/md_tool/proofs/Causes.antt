@@ -10,10 +10,10 @@ use Rattle.md_tool.specs.Causes.{TellsFirst, InputFails, IsReady, IsLive, LacksN
 use Rattle.md_tool.specs.declared.status.Status.{Status}
 use Rattle.md_tool.specs.declared.status.Status.TheVariants as status
 
--- the moment read is the one told
-pub told_moment : (o : Option ℤ) (now moment : ℤ) → o ≡ Some moment → IfSome o (λ m. now ≡ m) → now ≡ moment
-told_moment None now moment e h = cc
-told_moment (Some m) now moment e h = h ∙ cc (e)
+-- the moment read is the one known
+pub known_moment : (o : Option ℤ) (now moment : ℤ) → o ≡ Some moment → IfSome o (λ m. now ≡ m) → now ≡ moment
+known_moment None now moment e h = cc
+known_moment (Some m) now moment e h = h ∙ cc (e)
 
 pub if_some : {A : Type 0} (o : Option A) (P : A → Type 0) → ((x : A) → o ≡ Some x → P x) → IfSome o P
 if_some None P f = tt

@@ -3,7 +3,7 @@ use Rattle.std.proofs.Common.{◌≡◌, ◌⊎◌, inl, inr, List, ℕ, ℤ, co
 use Rattle.md_expr_parse.specs.declared.read.ReadError.{ReadError}
 use Rattle.md_expr_tree.specs.declared.tree.Expr.{Expr}
 use Rattle.md_find.specs.Finds as search
-use Rattle.md_find.specs.declared.finding.Found.{Found}
+use Rattle.md_find.specs.declared.finding.SearchResult.{SearchResult}
 use Rattle.md_find.specs.declared.finding.Output.{Output}
 use Rattle.md_live.specs.TimeForms.{out_of_range}
 use Rattle.md_script.specs.declared.script.Line.{Line}
@@ -75,9 +75,9 @@ module _ (offset : ℤ) (output : Output) (scope : PathBytes) (query : Result Ex
       → Finds offset output scope query old new p
   finds_unclocked expr is rose tree script = finds_same _ (text_unclocked expr is rose tree script)
 
-  pub finds_searches : (expr : Expr) (now : ℤ) (made : Found) → query ≡ Ok expr → IsShown old.clock new.clock now
-      → search.Finds old.tree.told old.tree.faults new.tree.faults (record { expr = expr; moment = now; offset = offset; scope = scope }) output made
-      → new.tree.told ≡ old.tree.told → new.script ≡ old.script → (p : Report) → p ≡ of_found made → Finds offset output scope query old new p
+  pub finds_searches : (expr : Expr) (now : ℤ) (made : SearchResult) → query ≡ Ok expr → IsShown old.clock new.clock now
+      → search.Finds old.tree.known old.tree.faults new.tree.faults (record { expr = expr; moment = now; offset = offset; scope = scope }) output made
+      → new.tree.known ≡ old.tree.known → new.script ≡ old.script → (p : Report) → p ≡ of_found made → Finds offset output scope query old new p
   finds_searches expr now made is shows found tree script = finds_same _ (searches expr now made is shows found tree script)
 
 -- a tool that is the run of a script asks and tells as that does
@@ -125,19 +125,19 @@ leaves_same (tool.Live workers) old = (refl, omega arith)
 leaves_same (tool.Gen start count) old = refl
 
 -- what a command leaves is left where the words read as it
-pub leaves_words : (words : List (List ℕ)) (old new : Inputs) (known : Command) → command_of words ≡ Some known → Leaves known.what old new
+pub leaves_words : (words : List (List ℕ)) (old new : Inputs) (parsed : Command) → command_of words ≡ Some parsed → Leaves parsed.what old new
     → (command : Command) → command_of words ≡ Some command → Leaves command.what old new
-leaves_words words old new known is leaves command told =
-    let same : Some known ≡ Some command = sym is ∙ told in
-    let known_same : known ≡ command = cc (same) in
-    subst (λ c. Leaves c.what old new) known_same leaves
+leaves_words words old new parsed is leaves command known =
+    let same : Some parsed ≡ Some command = sym is ∙ known in
+    let parsed_same : parsed ≡ command = cc (same) in
+    subst (λ c. Leaves c.what old new) parsed_same leaves
 
 -- what holds where the needs of a command are met holds of the words that read as it
-pub complete_words : (words : List (List ℕ)) (old new : Inputs) (before after : Outputs) (answer : Status) (known : Command) → command_of words ≡ Some known
-    → (IsReady known.offset old known.what → ¬ (InputFails old new) → ¬ (OutputFails before after) → (answer ≡ status.Memory) ⊎ IsWhole known.what new answer)
+pub complete_words : (words : List (List ℕ)) (old new : Inputs) (before after : Outputs) (answer : Status) (parsed : Command) → command_of words ≡ Some parsed
+    → (IsReady parsed.offset old parsed.what → ¬ (InputFails old new) → ¬ (OutputFails before after) → (answer ≡ status.Memory) ⊎ IsWhole parsed.what new answer)
     → (command : Command) → command_of words ≡ Some command
     → IsReady command.offset old command.what → ¬ (InputFails old new) → ¬ (OutputFails before after) → (answer ≡ status.Memory) ⊎ IsWhole command.what new answer
-complete_words words old new before after answer known is complete command told =
-    let same : Some known ≡ Some command = sym is ∙ told in
-    let known_same : known ≡ command = cc (same) in
-    subst (λ c. IsReady c.offset old c.what → ¬ (InputFails old new) → ¬ (OutputFails before after) → (answer ≡ status.Memory) ⊎ IsWhole c.what new answer) known_same complete
+complete_words words old new before after answer parsed is complete command known =
+    let same : Some parsed ≡ Some command = sym is ∙ known in
+    let parsed_same : parsed ≡ command = cc (same) in
+    subst (λ c. IsReady c.offset old c.what → ¬ (InputFails old new) → ¬ (OutputFails before after) → (answer ≡ status.Memory) ⊎ IsWhole c.what new answer) parsed_same complete

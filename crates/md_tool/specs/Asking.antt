@@ -7,7 +7,7 @@ use Rattle.md_files.specs.Reports.{Shows, Imports}
 use Rattle.md_files.specs.Tables.{importers_text, attributes_text}
 use Rattle.md_find.specs.Finds as search
 use Rattle.md_find.specs.Searches.{search_of}
-use Rattle.md_find.specs.declared.finding.Found.{Found}
+use Rattle.md_find.specs.declared.finding.SearchResult.{SearchResult}
 use Rattle.md_find.specs.declared.finding.Output.{Output}
 use Rattle.md_find.specs.declared.finding.Output.TheVariants as output
 use Rattle.md_live.specs.Headline.{Headline}
@@ -27,18 +27,18 @@ use Rattle.md_tool.specs.declared.status.Status.{Status}
 use Rattle.md_tool.specs.declared.status.Status.TheVariants as status
 
 -- A tool on files asks the tree alone.
-pub record OfFiles (old new : Inputs) (Makes : files.Report → Type 0) (report : Report) : Type 0 where
-  pub made : files.Report
+pub record OfFiles (old new : Inputs) (Makes : files.FileReport → Type 0) (report : Report) : Type 0 where
+  pub made : files.FileReport
   pub makes : Makes made
   pub is : report ≡ of_files made
-  pub content : new.tree.told ≡ old.tree.told
+  pub content : new.tree.known ≡ old.tree.known
   pub script : new.script ≡ old.script
   pub clock : new.clock ≡ old.clock
 
 -- What the lines of a script ask of the tree now at an offset: nothing where a form of time is out of range.
 pub data LinesAsk (now offset : ℤ) (lines : List Line) (old new : Files) : Report → Type 0 where
   misdated : (line form : ℕ) → out_of_range now offset lines ≡ Some (line, form) → new ≡ old → LinesAsk now offset lines old new (line_out_of_range line form)
-  run : (made : files.Report) → out_of_range now offset lines ≡ None → Headline old.told old.faults new.faults now offset lines made → new.told ≡ old.told
+  run : (made : files.FileReport) → out_of_range now offset lines ≡ None → Headline old.known old.faults new.faults now offset lines made → new.known ≡ old.known
       → LinesAsk now offset lines old new (of_files made)
 
 -- What a script in bytes asks of the clock, before and after, and of the tree: the clock is read only where the script is
@@ -66,15 +66,15 @@ pub data Finds (offset : ℤ) (output : Output) (scope : PathBytes) (query : Res
   refuses : (e : ReadError) → query ≡ Err e → new ≡ old → Finds offset output scope query old new (refused_text e)
   unclocked : (expr : Expr) → query ≡ Ok expr → ClockFails old.clock new.clock → new.tree ≡ old.tree → new.script ≡ old.script
       → Finds offset output scope query old new no_clock
-  searches : (expr : Expr) (now : ℤ) (found : Found) → query ≡ Ok expr → IsShown old.clock new.clock now
-      → search.Finds old.tree.told old.tree.faults new.tree.faults (record { expr = expr; moment = now; offset = offset; scope = scope }) output found
-      → new.tree.told ≡ old.tree.told → new.script ≡ old.script → Finds offset output scope query old new (of_found found)
+  searches : (expr : Expr) (now : ℤ) (found : SearchResult) → query ≡ Ok expr → IsShown old.clock new.clock now
+      → search.Finds old.tree.known old.tree.faults new.tree.faults (record { expr = expr; moment = now; offset = offset; scope = scope }) output found
+      → new.tree.known ≡ old.tree.known → new.script ≡ old.script → Finds offset output scope query old new (of_found found)
 
 -- what a tool asks at an offset, and what is printed of it
 abbrev pub ToolAsks : ℤ → Inputs → Inputs → Tool → Report → Type 0
 ToolAsks offset old new (tool.Find zero count scope name mode text) report = Finds offset (output_of zero count) scope (search_of name mode text) old new report
-ToolAsks offset old new (tool.Show raw marker names files) report = OfFiles old new (Shows old.tree.told old.tree.faults new.tree.faults offset raw marker names files) report
-ToolAsks offset old new (tool.Import files) report = OfFiles old new (Imports old.tree.told old.tree.faults new.tree.faults offset files) report
+ToolAsks offset old new (tool.Show raw marker names files) report = OfFiles old new (Shows old.tree.known old.tree.faults new.tree.faults offset raw marker names files) report
+ToolAsks offset old new (tool.Import files) report = OfFiles old new (Imports old.tree.known old.tree.faults new.tree.faults offset files) report
 ToolAsks offset old new tool.Importers report = (new ≡ old) × (report ≡ plain importers_text)
 ToolAsks offset old new tool.Attributes report = (new ≡ old) × (report ≡ plain attributes_text)
 ToolAsks offset old new (tool.Live None) report = Lives offset old new report

@@ -52,14 +52,14 @@ SearchHasFormOut now offset query = (expr : Expr) × (form : ℕ) × (query ≡ 
 
 -- the search text is refused, or a form of time of it or of the script is out of range
 abbrev pub RefusesExpression : ℤ → Inputs → Tool → Type 0
-RefusesExpression offset inputs (tool.Live None) = IfSome inputs.script.told (λ bytes. IfSome inputs.clock.told (λ now. HasFormOut now offset bytes))
+RefusesExpression offset inputs (tool.Live None) = IfSome inputs.script.known (λ bytes. IfSome inputs.clock.known (λ now. HasFormOut now offset bytes))
 RefusesExpression offset inputs (tool.Find zero count scope name mode text) =
-    IsRefusedText (search_of name mode text) ⊎ IfSome inputs.clock.told (λ now. SearchHasFormOut now offset (search_of name mode text))
+    IsRefusedText (search_of name mode text) ⊎ IfSome inputs.clock.known (λ now. SearchHasFormOut now offset (search_of name mode text))
 RefusesExpression offset inputs _ = ⊥
 
 -- the script that a tool runs is refused
 abbrev pub RefusesScript : Inputs → Tool → Type 0
-RefusesScript inputs (tool.Live None) = IfSome inputs.script.told IsRefused
+RefusesScript inputs (tool.Live None) = IfSome inputs.script.known IsRefused
 RefusesScript inputs _ = ⊥
 
 -- the script is read as lines, of which one imports a file that is not in the tree's content
@@ -69,18 +69,18 @@ LacksImport content bytes = (lines : List Line) × (verdict bytes ≡ Ok lines) 
 -- not all that a tool names is in the tree: the folder of `mdfind`, the files of `mdls` and of a script, and the files or
 -- folders of `mdimport`
 abbrev pub LacksNamed : Inputs → Tool → Type 0
-LacksNamed inputs (tool.Find zero count scope name mode text) = IfSome inputs.tree.told (λ content. has_folder content.folders scope ≡ false)
-LacksNamed inputs (tool.Show raw marker names files) = IfSome inputs.tree.told (λ content. tells_files content files ≡ false)
-LacksNamed inputs (tool.Import files) = IfSome inputs.tree.told (λ content. tells_all content files ≡ false)
-LacksNamed inputs (tool.Live None) = IfSome inputs.tree.told (λ content. IfSome inputs.script.told (LacksImport content))
+LacksNamed inputs (tool.Find zero count scope name mode text) = IfSome inputs.tree.known (λ content. has_folder content.folders scope ≡ false)
+LacksNamed inputs (tool.Show raw marker names files) = IfSome inputs.tree.known (λ content. tells_files content files ≡ false)
+LacksNamed inputs (tool.Import files) = IfSome inputs.tree.known (λ content. tells_all content files ≡ false)
+LacksNamed inputs (tool.Live None) = IfSome inputs.tree.known (λ content. IfSome inputs.script.known (LacksImport content))
 LacksNamed inputs _ = ⊥
 
 -- the folder of `mdfind` has too many files
 abbrev pub HasTooMany : Inputs → Tool → Type 0
-HasTooMany inputs (tool.Find zero count scope name mode text) = IfSome inputs.tree.told (λ content. most_files < length (entries_below content.files scope))
+HasTooMany inputs (tool.Find zero count scope name mode text) = IfSome inputs.tree.known (λ content. most_files < length (entries_below content.files scope))
 HasTooMany inputs _ = ⊥
 
--- all files that lines import are told by the tree; there are none where it tells nothing
+-- all files that lines import are known by the tree; there are none where it tells nothing
 abbrev pub TellsImports : Option Content → List Line → Type 0
 TellsImports None lines = filter_map (λ line. imported_path line.what) lines ≡ []
 TellsImports (Some content) lines = tells_imports content lines ≡ true
@@ -93,24 +93,24 @@ AreInRange offset clock lines = (now : ℤ) → MayShow clock now → out_of_ran
 abbrev pub IsInRange : ℤ → Shown → Expr → Type 0
 IsInRange offset clock expr = (now : ℤ) → MayShow clock now → first_out_of_range now offset expr ≡ None
 
--- the script is read as lines, with each form of time in range and each file that they import told
+-- the script is read as lines, with each form of time in range and each file that they import known
 abbrev pub IsAccepted : ℤ → Shown → Option Content → List ℕ → Type 0
-IsAccepted offset clock told bytes = (lines : List Line) × (verdict bytes ≡ Ok lines) × AreInRange offset clock lines × TellsImports told lines
+IsAccepted offset clock known bytes = (lines : List Line) × (verdict bytes ≡ Ok lines) × AreInRange offset clock lines × TellsImports known lines
 
 -- the folder is there, and has not too many files
 abbrev pub HasFew : Content → PathBytes → Type 0
 HasFew content scope = (has_folder content.folders scope ≡ true) × (length (entries_below content.files scope) ≤ most_files)
 
--- what a tool needs is told and in order: the files and folders that it names, a script that is accepted, or a search text
--- that is read. The moment of the clock need not be told.
+-- what a tool needs is known and in order: the files and folders that it names, a script that is accepted, or a search text
+-- that is read. The moment of the clock need not be known.
 abbrev pub IsReady : ℤ → Inputs → Tool → Type 0
 IsReady offset inputs (tool.Find zero count scope name mode text) =
-    (content : Content) × (expr : Expr) × (inputs.tree.told ≡ Some content) × (search_of name mode text ≡ Ok expr)
+    (content : Content) × (expr : Expr) × (inputs.tree.known ≡ Some content) × (search_of name mode text ≡ Ok expr)
     × IsInRange offset inputs.clock expr × HasFew content scope
 IsReady offset inputs (tool.Live None) =
-    (bytes : List ℕ) × (inputs.script.told ≡ Some bytes) × IsAccepted offset inputs.clock inputs.tree.told bytes
-IsReady offset inputs (tool.Show raw marker names files) = (content : Content) × (inputs.tree.told ≡ Some content) × (tells_files content files ≡ true)
-IsReady offset inputs (tool.Import files) = (content : Content) × (inputs.tree.told ≡ Some content) × (tells_all content files ≡ true)
+    (bytes : List ℕ) × (inputs.script.known ≡ Some bytes) × IsAccepted offset inputs.clock inputs.tree.known bytes
+IsReady offset inputs (tool.Show raw marker names files) = (content : Content) × (inputs.tree.known ≡ Some content) × (tells_files content files ≡ true)
+IsReady offset inputs (tool.Import files) = (content : Content) × (inputs.tree.known ≡ Some content) × (tells_all content files ≡ true)
 IsReady offset inputs _ = Unit {0}
 
 -- What a status tells of what was asked of the tree, the script and the clock.
@@ -130,9 +130,9 @@ pub record Tells (offset : ℤ) (what : Tool) (old new : Inputs) (answer : Statu
 
 -- all was printed, and a script was read to its end
 abbrev pub IsWhole : Tool → Inputs → Status → Type 0
-IsWhole what new answer = (answer ≡ status.Ok) × (IsLive what → IsAtEnd new.script.told)
+IsWhole what new answer = (answer ≡ status.Ok) × (IsLive what → IsAtEnd new.script.known)
 
--- what the status of a report tells before it is put: also that it is none of a put, and that of a run where all is told
+-- what the status of a report tells before it is put: also that it is none of a put, and that of a run where all is known
 -- and in order and nothing failed
 abbrev pub TellsFirst : ℤ → Tool → Inputs → Inputs → Status → Type 0
 TellsFirst offset what old new answer =

@@ -1,4 +1,4 @@
--- What is told of the objects of the outside, before a run or after it.
+-- What is known of the objects of the outside, before a run or after it.
 use Rattle.std.specs.Prelude.{◌≡◌, ℕ, ◌+◌, ◌≤◌, ℤ, List, length, take, IfSome, Option}
 use Rattle.std.specs.Io.KnownBytes.{Consumes, IsAtEnd}
 use Rattle.md_value.specs.Values.{IsMoment}
@@ -7,19 +7,19 @@ use Rattle.md_source.specs.Tree.{Content}
 use Rattle.md_source.specs.Puts.{PutsNothing, PutsWhole, PutsPart}
 use Rattle.md_script.specs.Limits.{most_bytes}
 
--- the bytes that are left in a source, or that a sink has taken, where they are told; and how often it has failed
+-- the bytes that are left in a source, or that a sink has taken, where they are known; and how often it has failed
 pub record Bytes : Type 0 where
-  pub told : Option (List ℕ)
+  pub known : Option (List ℕ)
   pub faults : ℕ
 
--- the moment that a clock shows, where it is told, and how often it has failed
+-- the moment that a clock shows, where it is known, and how often it has failed
 pub record Shown : Type 0 where
-  pub told : Option ℤ
+  pub known : Option ℤ
   pub faults : ℕ
 
--- what a tree holds, where it is told, and how often it has failed
+-- what a tree holds, where it is known, and how often it has failed
 pub record Files : Type 0 where
-  pub told : Option Content
+  pub known : Option Content
   pub faults : ℕ
 
 -- the tree, the script and the clock
@@ -33,40 +33,40 @@ pub record Outputs : Type 0 where
   pub err : Bytes
   pub out : Bytes
 
--- what is told of a tree, a script and a clock, each beside its count of faults
+-- what is known of a tree, a script and a clock, each beside its count of faults
 abbrev pub inputs : Option Content → ℕ → Option (List ℕ) → ℕ → Option ℤ → ℕ → Inputs
 inputs content tree left script moment clock =
     record {
-      tree = record { told = content; faults = tree };
-      script = record { told = left; faults = script };
-      clock = record { told = moment; faults = clock };
+      tree = record { known = content; faults = tree };
+      script = record { known = left; faults = script };
+      clock = record { known = moment; faults = clock };
     }
 
 -- and of the sinks for err and for out
 abbrev pub outputs : Option (List ℕ) → ℕ → Option (List ℕ) → ℕ → Outputs
 outputs err_taken err out_taken out =
-    record { err = record { told = err_taken; faults = err }; out = record { told = out_taken; faults = out } }
+    record { err = record { known = err_taken; faults = err }; out = record { known = out_taken; faults = out } }
 
 -- The bytes were read from a source to its end, or to one byte past the most that a script has.
 pub record IsRead (old new : Bytes) (bytes : List ℕ) : Type 0 where
-  pub taken : Consumes old.told new.told bytes
-  pub end : length bytes ≤ most_bytes → IsAtEnd new.told
-  pub told : IfSome old.told (λ left. bytes ≡ take (most_bytes + 1) left)
+  pub taken : Consumes old.known new.known bytes
+  pub end : length bytes ≤ most_bytes → IsAtEnd new.known
+  pub known : IfSome old.known (λ left. bytes ≡ take (most_bytes + 1) left)
   pub kept : new.faults ≡ old.faults
 
 -- The clock showed this moment, and did not fail.
 pub record IsShown (old new : Shown) (now : ℤ) : Type 0 where
   pub range : IsMoment now
-  pub told : IfSome old.told (λ moment. now ≡ moment)
+  pub known : IfSome old.known (λ moment. now ≡ moment)
   pub kept : new.faults ≡ old.faults
 
--- the moments that a clock may show: the one that is told, or any where none is
+-- the moments that a clock may show: the one that is known, or any where none is
 abbrev pub MayShow : Shown → ℤ → Type 0
-MayShow clock now = IsMoment now × IfSome clock.told (λ moment. now ≡ moment)
+MayShow clock now = IsMoment now × IfSome clock.known (λ moment. now ≡ moment)
 
 -- the content of a tree stays, and its count of faults does not fall
 abbrev pub Stays : Files → Files → Type 0
-Stays old new = (new.told ≡ old.told) × (old.faults ≤ new.faults)
+Stays old new = (new.known ≡ old.known) × (old.faults ≤ new.faults)
 
 -- a source or a sink, a clock, a tree failed
 abbrev pub Fails : Bytes → Bytes → Type 0
@@ -80,12 +80,12 @@ TreeFails old new = Rose old.faults new.faults
 
 -- no byte was put
 abbrev pub TakesNothing : Bytes → Bytes → Type 0
-TakesNothing old new = PutsNothing old.told new.told old.faults new.faults
+TakesNothing old new = PutsNothing old.known new.known old.faults new.faults
 
 -- all of the text was put
 abbrev pub TakesWhole : Bytes → Bytes → List ℕ → Type 0
-TakesWhole old new text = PutsWhole old.told new.told old.faults new.faults text
+TakesWhole old new text = PutsWhole old.known new.known old.faults new.faults text
 
--- a front of the text was put, and then the sink failed
+-- a prefix of the text was put, and then the sink failed
 abbrev pub TakesPart : Bytes → Bytes → List ℕ → Type 0
-TakesPart old new text = PutsPart old.told new.told old.faults new.faults text
+TakesPart old new text = PutsPart old.known new.known old.faults new.faults text

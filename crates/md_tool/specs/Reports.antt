@@ -7,8 +7,8 @@ use Rattle.md_files.specs.Reports as files
 use Rattle.md_files.specs.declared.report.End.{End}
 use Rattle.md_files.specs.declared.report.End.TheVariants as ended
 use Rattle.md_find.specs.Folders.{most_files}
-use Rattle.md_find.specs.declared.finding.Found.{Found}
-use Rattle.md_find.specs.declared.finding.Found.TheVariants as found
+use Rattle.md_find.specs.declared.finding.SearchResult.{SearchResult}
+use Rattle.md_find.specs.declared.finding.SearchResult.TheVariants as found
 use Rattle.md_script.specs.declared.script.ScriptError.{ScriptError}
 use Rattle.md_script.specs.declared.script.ScriptError.TheVariants as error
 use Rattle.md_tool.specs.declared.status.Status.{Status}
@@ -39,7 +39,7 @@ status_of ended.Failed = status.ReadFault
 status_of ended.Absent = status.Absent
 
 -- what a tool on files prints
-abbrev pub of_files : files.Report → Report
+abbrev pub of_files : files.FileReport → Report
 of_files made = record { status = status_of made.end; out = made.out; err = made.err }
 
 -- a clock that failed
@@ -75,7 +75,7 @@ abbrev pub too_many_files : Report
 too_many_files = refusal status.Full (codes "more than " ++ (decimal most_files ++ codes " files"))
 
 -- what `mdfind` prints of what its search gives
-abbrev pub of_found : Found → Report
+abbrev pub of_found : SearchResult → Report
 of_found (found.Report made) = of_files made
 of_found found.Full = too_many_files
 of_found (found.OutOfRange form) = form_out_of_range form

@@ -13,7 +13,7 @@ ghost use Rattle.md_tool.specs.Causes.{TellsFirst};
 use crate::Status;
 use crate::report::{Report, no_clock, of_files, refusal};
 use md_expr::{Expr, ReadError};
-use md_find::{Found, MOST_FILES, Output, Search};
+use md_find::{MOST_FILES, Output, Search, SearchResult};
 use md_source::{Clock, Tree};
 use md_value::{Copied, Path};
 use md_words::Word;
@@ -50,13 +50,13 @@ fn too_many_files(alloc: Global) -> Result<Report, AllocError>
 }
 
 // What is printed of what a search gives.
-fn of_found(alloc: Global, found: Found) -> Result<Report, AllocError>
+fn of_found(alloc: Global, found: SearchResult) -> Result<Report, AllocError>
     ensures { IfOk result (λ report. report ≡ of_found found) }
 {
     match found {
-        Found::Report(made) => Ok(of_files(made)),
-        Found::Full => too_many_files(alloc),
-        Found::OutOfRange(form) => form_out_of_range(alloc, form),
+        SearchResult::Report(made) => Ok(of_files(made)),
+        SearchResult::Full => too_many_files(alloc),
+        SearchResult::OutOfRange(form) => form_out_of_range(alloc, form),
     }
 }
 
@@ -95,13 +95,13 @@ pub(crate) fn find<R: Threads + Sync, T: Tree, C: Clock>(
     clock: &mut C,
 ) -> Result<Report, AllocError>
     ensures asks { (script : Bytes) → IfOk result (λ report. Finds offset output scope.now query
-        (inputs (T.content tree.old) (T.faults tree.old) script.told script.faults (C.moment clock.old) (C.faults clock.old))
-        (inputs (T.content tree.new) (T.faults tree.new) script.told script.faults (C.moment clock.new) (C.faults clock.new))
+        (inputs (T.content tree.old) (T.faults tree.old) script.known script.faults (C.moment clock.old) (C.faults clock.old))
+        (inputs (T.content tree.new) (T.faults tree.new) script.known script.faults (C.moment clock.new) (C.faults clock.new))
         report) }
     ensures tells { (script : Bytes) (zero count : Bool) (name : Option (List ℕ)) (mode : Mode) (text : Option (List ℕ))
         → search_of name mode text ≡ query → IfOk result (λ report. TellsFirst offset (Find zero count scope.now name mode text)
-        (inputs (T.content tree.old) (T.faults tree.old) script.told script.faults (C.moment clock.old) (C.faults clock.old))
-        (inputs (T.content tree.new) (T.faults tree.new) script.told script.faults (C.moment clock.new) (C.faults clock.new))
+        (inputs (T.content tree.old) (T.faults tree.old) script.known script.faults (C.moment clock.old) (C.faults clock.old))
+        (inputs (T.content tree.new) (T.faults tree.new) script.known script.faults (C.moment clock.new) (C.faults clock.new))
         report.status) }
     ensures memory { query ≡ Err Memory → IsErr result }
     ensures content { T.content tree.new ≡ T.content tree.old }

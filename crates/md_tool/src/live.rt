@@ -54,8 +54,8 @@ fn of_lines<T: Tree>(
     requires few { length lines.now ≤ most_lines }
     requires moment { IsMoment now }
     ensures asks { IfOk result (λ report. LinesAsk now offset lines.now
-        (record { told = T.content tree.old; faults = T.faults tree.old })
-        (record { told = T.content tree.new; faults = T.faults tree.new }) report) }
+        (record { known = T.content tree.old; faults = T.faults tree.old })
+        (record { known = T.content tree.new; faults = T.faults tree.new }) report) }
     ensures content { T.content tree.new ≡ T.content tree.old }
     ensures later { T.faults tree.old ≤ T.faults tree.new }
 {
@@ -75,10 +75,10 @@ fn answer<T: Tree, C: Clock>(
     clock: &mut C,
 ) -> Result<Report, AllocError>
     ensures asks { IfOk result (λ report. Answers offset bytes.now
-        (record { told = C.moment clock.old; faults = C.faults clock.old })
-        (record { told = C.moment clock.new; faults = C.faults clock.new })
-        (record { told = T.content tree.old; faults = T.faults tree.old })
-        (record { told = T.content tree.new; faults = T.faults tree.new }) report) }
+        (record { known = C.moment clock.old; faults = C.faults clock.old })
+        (record { known = C.moment clock.new; faults = C.faults clock.new })
+        (record { known = T.content tree.old; faults = T.faults tree.old })
+        (record { known = T.content tree.new; faults = T.faults tree.new }) report) }
     ensures content { T.content tree.new ≡ T.content tree.old }
     ensures later { T.faults tree.old ≤ T.faults tree.new }
 {

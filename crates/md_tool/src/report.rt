@@ -69,7 +69,7 @@ fn status_of(end: End) -> Status
 }
 
 /// What a tool on files prints.
-pub(crate) fn of_files(made: md_files::Report) -> Report
+pub(crate) fn of_files(made: md_files::FileReport) -> Report
     ensures { result ≡ of_files made }
 {
     Report {

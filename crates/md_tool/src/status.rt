@@ -14,7 +14,7 @@ pub enum Status {
     Expression,
     /// A call on the tree, the script or the clock failed: its count of faults rose.
     ReadFault,
-    /// A call on a sink failed: its count of faults rose, and a front of the texts was put.
+    /// A call on a sink failed: its count of faults rose, and a prefix of the texts was put.
     WriteFault,
     /// Memory ran out, and nothing was put.
     Memory,

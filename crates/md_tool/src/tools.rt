@@ -28,12 +28,12 @@ fn show<T: Tree>(
     files: &[Path],
 ) -> Result<Report, AllocError>
     ensures asks { (script : Bytes) (clock : Shown) → IfOk result (λ report. OfFiles
-        (inputs (T.content tree.old) (T.faults tree.old) script.told script.faults clock.told clock.faults)
-        (inputs (T.content tree.new) (T.faults tree.new) script.told script.faults clock.told clock.faults)
+        (inputs (T.content tree.old) (T.faults tree.old) script.known script.faults clock.known clock.faults)
+        (inputs (T.content tree.new) (T.faults tree.new) script.known script.faults clock.known clock.faults)
         (Shows (T.content tree.old) (T.faults tree.old) (T.faults tree.new) offset raw marker.now names.now files.now) report) }
     ensures tells { (script : Bytes) (clock : Shown) → IfOk result (λ report. TellsFirst offset (Show raw marker.now names.now files.now)
-        (inputs (T.content tree.old) (T.faults tree.old) script.told script.faults clock.told clock.faults)
-        (inputs (T.content tree.new) (T.faults tree.new) script.told script.faults clock.told clock.faults)
+        (inputs (T.content tree.old) (T.faults tree.old) script.known script.faults clock.known clock.faults)
+        (inputs (T.content tree.new) (T.faults tree.new) script.known script.faults clock.known clock.faults)
         report.status) }
     ensures content { T.content tree.new ≡ T.content tree.old }
     ensures later { T.faults tree.old ≤ T.faults tree.new }
@@ -49,12 +49,12 @@ fn import<T: Tree>(
     files: &[Path],
 ) -> Result<Report, AllocError>
     ensures asks { (script : Bytes) (clock : Shown) → IfOk result (λ report. OfFiles
-        (inputs (T.content tree.old) (T.faults tree.old) script.told script.faults clock.told clock.faults)
-        (inputs (T.content tree.new) (T.faults tree.new) script.told script.faults clock.told clock.faults)
+        (inputs (T.content tree.old) (T.faults tree.old) script.known script.faults clock.known clock.faults)
+        (inputs (T.content tree.new) (T.faults tree.new) script.known script.faults clock.known clock.faults)
         (Imports (T.content tree.old) (T.faults tree.old) (T.faults tree.new) offset files.now) report) }
     ensures tells { (script : Bytes) (clock : Shown) → IfOk result (λ report. TellsFirst offset (Import files.now)
-        (inputs (T.content tree.old) (T.faults tree.old) script.told script.faults clock.told clock.faults)
-        (inputs (T.content tree.new) (T.faults tree.new) script.told script.faults clock.told clock.faults)
+        (inputs (T.content tree.old) (T.faults tree.old) script.known script.faults clock.known clock.faults)
+        (inputs (T.content tree.new) (T.faults tree.new) script.known script.faults clock.known clock.faults)
         report.status) }
     ensures content { T.content tree.new ≡ T.content tree.old }
     ensures later { T.faults tree.old ≤ T.faults tree.new }

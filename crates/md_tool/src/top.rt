@@ -20,7 +20,7 @@ fn print<K: Sink, E: Sink>(report: Result<Report, AllocError>, out: &mut K, err:
     // What is printed of a report.
     ensures prints { IfOk report (λ r. Prints r (outputs (E.taken err.old) (E.faults err.old) (K.taken out.old) (K.faults out.old)) (outputs (E.taken err.new) (E.faults err.new) (K.taken out.new) (K.faults out.new)) result.status) }
     ensures status { IfOk report (λ r. (result.status ≡ r.status) ⊎ ((result.status ≡ Status.Memory) ⊎ ((result.status ≡ Status.WriteFault) × OutputFails (outputs (E.taken err.old) (E.faults err.old) (K.taken out.old) (K.faults out.old)) (outputs (E.taken err.new) (E.faults err.new) (K.taken out.new) (K.faults out.new))))) }
-    ensures memory { IsErr report → (result.status ≡ Status.Memory) × TakesNothing (record { told = E.taken err.old; faults = E.faults err.old }) (record { told = E.taken err.new; faults = E.faults err.new }) × TakesNothing (record { told = K.taken out.old; faults = K.faults out.old }) (record { told = K.taken out.new; faults = K.faults out.new }) }
+    ensures memory { IsErr report → (result.status ≡ Status.Memory) × TakesNothing (record { known = E.taken err.old; faults = E.faults err.old }) (record { known = E.taken err.new; faults = E.faults err.new }) × TakesNothing (record { known = K.taken out.old; faults = K.faults out.old }) (record { known = K.taken out.new; faults = K.faults out.new }) }
 {
     let Ok(report) = report else {
         return Outcome {
@@ -60,7 +60,7 @@ pub fn run_tool<R: Threads + Sync, T: Tree, S: Source, C: Clock, K: Sink, E: Sin
     // The cause of each status.
     ensures tells { Tells command.now.offset command.now.what (inputs (T.content tree.old) (T.faults tree.old) (S.left script.old) (S.faults script.old) (C.moment clock.old) (C.faults clock.old)) (inputs (T.content tree.new) (T.faults tree.new) (S.left script.new) (S.faults script.new) (C.moment clock.new) (C.faults clock.new)) result.status }
     ensures write_fault { result.status ≡ Status.WriteFault → OutputFails (outputs (E.taken err.old) (E.faults err.old) (K.taken out.old) (K.faults out.old)) (outputs (E.taken err.new) (E.faults err.new) (K.taken out.new) (K.faults out.new)) }
-    // Where all that the command needs is told and in order and no call on the outside failed, all is printed, or memory
+    // Where all that the command needs is known and in order and no call on the outside failed, all is printed, or memory
     // ran out.
     ensures complete { IsReady command.now.offset (inputs (T.content tree.old) (T.faults tree.old) (S.left script.old) (S.faults script.old) (C.moment clock.old) (C.faults clock.old)) command.now.what → ¬ (InputFails (inputs (T.content tree.old) (T.faults tree.old) (S.left script.old) (S.faults script.old) (C.moment clock.old) (C.faults clock.old)) (inputs (T.content tree.new) (T.faults tree.new) (S.left script.new) (S.faults script.new) (C.moment clock.new) (C.faults clock.new))) → ¬ (OutputFails (outputs (E.taken err.old) (E.faults err.old) (K.taken out.old) (K.faults out.old)) (outputs (E.taken err.new) (E.faults err.new) (K.taken out.new) (K.faults out.new)))
         → (result.status ≡ Status.Memory) ⊎ IsWhole command.now.what (inputs (T.content tree.new) (T.faults tree.new) (S.left script.new) (S.faults script.new) (C.moment clock.new) (C.faults clock.new)) result.status }
@@ -91,7 +91,7 @@ pub fn run<R: Threads + Sync, T: Tree, S: Source, C: Clock, K: Sink, E: Sink>(
     ensures usage { result.status ≡ Status.Usage → command_of (texts words.now) ≡ None }
     ensures tells { (command : Command) → command_of (texts words.now) ≡ Some command → Tells command.offset command.what (inputs (T.content tree.old) (T.faults tree.old) (S.left script.old) (S.faults script.old) (C.moment clock.old) (C.faults clock.old)) (inputs (T.content tree.new) (T.faults tree.new) (S.left script.new) (S.faults script.new) (C.moment clock.new) (C.faults clock.new)) result.status }
     ensures write_fault { result.status ≡ Status.WriteFault → OutputFails (outputs (E.taken err.old) (E.faults err.old) (K.taken out.old) (K.faults out.old)) (outputs (E.taken err.new) (E.faults err.new) (K.taken out.new) (K.faults out.new)) }
-    // Where the words are understood, all that their command needs is told and in order and no call on the outside failed,
+    // Where the words are understood, all that their command needs is known and in order and no call on the outside failed,
     // all is printed, or memory ran out.
     ensures complete { (command : Command) → command_of (texts words.now) ≡ Some command
         → IsReady command.offset (inputs (T.content tree.old) (T.faults tree.old) (S.left script.old) (S.faults script.old) (C.moment clock.old) (C.faults clock.old)) command.what → ¬ (InputFails (inputs (T.content tree.old) (T.faults tree.old) (S.left script.old) (S.faults script.old) (C.moment clock.old) (C.faults clock.old)) (inputs (T.content tree.new) (T.faults tree.new) (S.left script.new) (S.faults script.new) (C.moment clock.new) (C.faults clock.new))) → ¬ (OutputFails (outputs (E.taken err.old) (E.faults err.old) (K.taken out.old) (K.faults out.old)) (outputs (E.taken err.new) (E.faults err.new) (K.taken out.new) (K.faults out.new)))

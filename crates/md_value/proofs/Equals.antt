@@ -44,9 +44,9 @@ pub attrs_exact : (a b : List Attr) → same_attrs a b ≡ true → a ≡ b
 attrs_exact [] [] h = refl
 attrs_exact ((n, vs) ∷ left) ((m, ws) ∷ right) h =
     let parts = both (is_same n m && same_values vs ws) (same_attrs left right) h in
-    let front = both (is_same n m) (same_values vs ws) parts.0 in
-    let name = same_exact n m front.0 in
-    let values = values_exact vs ws front.1 in
+    let prefix = both (is_same n m) (same_values vs ws) parts.0 in
+    let name = same_exact n m prefix.0 in
+    let values = values_exact vs ws prefix.1 in
     let tail = attrs_exact left right parts.1 in cc
 attrs_exact _ _ h = cc
 

@@ -10,7 +10,7 @@ use std::alloc::AllocError;
 pub enum Fault {
     /// It has this many bytes, which are over the most that are imported.
     TooLarge(u64),
-    /// It is not UTF-8; this many bytes at its front are.
+    /// It is not UTF-8; this many bytes at its beginning are.
     NotUtf8(u64),
     NotJson,
     /// It is JSON, and no object.

@@ -56,10 +56,10 @@ name_of false w n is = cc
 pub name_step : (o : Options) (w n : List ℕ) (ws rest names : List (List ℕ)) → ws ≡ w ∷ rest → Some n ≡ (if is_name w then Some w else None) → names ≡ o.names ++ n ∷ []
     → joined o (options_from name ws) ≡ joined (record { raw = o.raw; marker = o.marker; names = names }) (options_from option rest)
 name_step o w n ws rest names is named pushed =
-    let told = name_of (is_name w) w n named in
-    let read : options_from name (w ∷ rest) ≡ option_map (with_name w) (options_from option rest) = rw told.0 refl in
+    let known = name_of (is_name w) w n named in
+    let read : options_from name (w ∷ rest) ≡ option_map (with_name w) (options_from option rest) = rw known.0 refl in
     ap (λ (l : List (List ℕ)). joined o (options_from name l)) is ∙ ap (joined o) read ∙ name_first o w (options_from option rest)
-    ∙ ap (λ (l : List (List ℕ)). joined (record { raw = o.raw; marker = o.marker; names = l }) (options_from option rest)) (ap (λ (m : List ℕ). o.names ++ m ∷ []) (sym told.1) ∙ sym pushed)
+    ∙ ap (λ (l : List (List ℕ)). joined (record { raw = o.raw; marker = o.marker; names = l }) (options_from option rest)) (ap (λ (m : List ℕ). o.names ++ m ∷ []) (sym known.1) ∙ sym pushed)
 
 -- the options end at `--`
 pub ends_after : (o : Options) (w : List ℕ) (words rest after : List (List ℕ)) → rest ≡ w ∷ after → bytes_eq w (codes "--") ≡ true

@@ -32,8 +32,8 @@ pub path_step : (w p : List ℕ) (words rest after paths pushed : List (List ℕ
     → paths ++ map normal rest ≡ map normal words → pushed ++ map normal after ≡ map normal words
 unfolding path_of
 path_step w p words rest after paths pushed is some pushes left =
-    let told = (some_of (is_bad w) (normal w) p some).1 in
-    ap (λ (l : List (List ℕ)). l ++ map normal after) (pushes ∙ ap (λ (q : List ℕ). paths ++ q ∷ []) told)
+    let known = (some_of (is_bad w) (normal w) p some).1 in
+    ap (λ (l : List (List ℕ)). l ++ map normal after) (pushes ∙ ap (λ (q : List ℕ). paths ++ q ∷ []) known)
     ∙ append_assoc paths (normal w ∷ []) (map normal after)
     ∙ ap (λ (l : List (List ℕ)). paths ++ map normal l) (sym is) ∙ left
 

@@ -16,11 +16,11 @@ flag_of word =
     else (if bytes_eq word (codes "-interpret") then Some (find.Mode mode.Plain)
     else None)))
 
--- the options at the front of the words, and the words that follow them
+-- the options at the beginning of the words, and the words that follow them
 abbrev pub Read : Type 0
 Read = List FindWord × List (List ℕ)
 
--- with one option more in front
+-- with one option more before
 abbrev pub before : FindWord → Option Read → Option Read
 before word read = option_map (λ r. (word ∷ r.0, r.1)) read
 
@@ -61,6 +61,6 @@ abbrev pub together : List FindWord → Option FindOptions
 together [] = Some no_options
 together (word ∷ words) = option_and_then (with_option word) (together words)
 
--- what the options at the front of the words say, and the words that follow; None where they are not in the grammar
+-- what the options at the beginning of the words say, and the words that follow; None where they are not in the grammar
 unfoldable pub find_options_of : List (List ℕ) → Option (FindOptions × List (List ℕ))
 find_options_of words = option_and_then (λ read. option_map (λ options. (options, read.1)) (together read.0)) (read_from option words)

@@ -46,7 +46,7 @@ options_from text (word ∷ words) = option_and_then (with_marker word) (options
 options_from name [] = None
 options_from name (word ∷ words) = if is_name word then option_map (with_name word) (options_from option words) else None
 
--- what the options at the front of the words say, and the words that follow; None where they are not in the grammar
+-- what the options at the beginning of the words say, and the words that follow; None where they are not in the grammar
 unfoldable pub options_of : List (List ℕ) → Option Read
 options_of words = options_from option words
 

@@ -14,7 +14,7 @@ pub struct Command {
     pub what: Tool,
 }
 
-/// The tool that is asked for, and what it is told.
+/// The tool that is asked for, and its arguments.
 #[derive(Drop)]
 pub enum Tool {
     /// `mdfind`: the paths of the files below `scope` that meet a test of their name, a search text, or both.

@@ -1,6 +1,6 @@
 //! The words of the program: the grammar of its commands.
 //!
-//! [`read_words`] reads all words as one [`Command`]: a tool with what it is told, and the offset of local time from UTC.
+//! [`read_words`] reads all words as one [`Command`]: a tool with its arguments, and the offset of local time from UTC.
 //! Options stand in any order, each at most once but for those that may be repeated. Words that are not in the grammar are
 //! refused as [`WordsError::Usage`], whatever is wrong with them, and nothing is asked of a tree, a script or a clock here.
 //!

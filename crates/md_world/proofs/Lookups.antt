@@ -10,6 +10,7 @@ use Rattle.md_value.proofs.Equals.{both, attrs_exact}
 use Rattle.md_world.specs.declared.Row.{Row}
 use Rattle.md_world.specs.declared.Change.{Change}
 use Rattle.md_world.specs.declared.Change.TheVariants.{Put, Remove}
+pub use Rattle.md_world.specs.Tables.{row_of}
 use Rattle.md_world.specs.Tables.{after, StandAfter, IsTable, at, rows_before, rows_after, with_row, without_path, same_row}
 
 -- cases of a test, each with what the test gave
@@ -44,9 +45,9 @@ pub at_own : (x : Row) (xs : List Row) → at (x ∷ xs) x.path ≡ Some x
 at_own x xs = rw (same_refl x.path) refl
 
 -- no row of rows that stand after a path has it
-pub at_front : (p : PathBytes) (rows : List Row) → StandAfter p rows → at rows p ≡ None
-at_front p [] h = refl
-at_front p (r ∷ rows) h = rw (same_sym_false p r.path (before_not_same p r.path h.0)) (at_front p rows h.1)
+pub at_prefix : (p : PathBytes) (rows : List Row) → StandAfter p rows → at rows p ≡ None
+at_prefix p [] h = refl
+at_prefix p (r ∷ rows) h = rw (same_sym_false p r.path (before_not_same p r.path h.0)) (at_prefix p rows h.1)
 
 pub stand_after_trans : (p q : PathBytes) (rows : List Row) → is_before p q ≡ true → StandAfter q rows → StandAfter p rows
 stand_after_trans p q [] h k = tt
@@ -56,13 +57,13 @@ stand_after_trans p q (r ∷ rows) h k = (before_trans p q r.path h k.0, stand_a
 same_tails : (x : Row) (xs ys : List Row) → StandAfter x.path xs → StandAfter x.path ys → ((p : PathBytes) → at (x ∷ xs) p ≡ at (x ∷ ys) p) → (p : PathBytes) → at xs p ≡ at ys p
 same_tails x xs ys hx hy h p =
     by_test (is_same x.path p)
-    (λ e. subst (λ q. at xs q ≡ at ys q) (same_exact x.path p e) (at_front x.path xs hx ∙ sym (at_front x.path ys hy)))
+    (λ e. subst (λ q. at xs q ≡ at ys q) (same_exact x.path p e) (at_prefix x.path xs hx ∙ sym (at_prefix x.path ys hy)))
     (λ e. let k = h p in rw e at k)
 
 -- the first rows of two tables that have the same rows
 first_not_before : (x y : Row) (xs ys : List Row) → StandAfter y.path ys → at (x ∷ xs) x.path ≡ at (y ∷ ys) x.path → is_before x.path y.path ≡ true → ⊥
 first_not_before x y xs ys hy h e =
-    some_not_none x (at (y ∷ ys) x.path) (sym h ∙ at_own x xs) (at_front x.path (y ∷ ys) (e, stand_after_trans x.path y.path ys e hy))
+    some_not_none x (at (y ∷ ys) x.path) (sym h ∙ at_own x xs) (at_prefix x.path (y ∷ ys) (e, stand_after_trans x.path y.path ys e hy))
 
 same_first : (x y : Row) (xs ys : List Row) → is_same y.path x.path ≡ true → at (x ∷ xs) x.path ≡ at (y ∷ ys) x.path → x ≡ y
 same_first x y xs ys e h = some_inj x y (sym (at_own x xs) ∙ h ∙ rw e refl)
@@ -130,7 +131,7 @@ at_filter t p (r ∷ rows) h =
     by_test (is_same r.path p)
     (λ e. by_test (t r)
     (λ k. rw (k, e, k) refl)
-    (λ k. rw (k, e, k) (subst (λ q. at (filter t rows) q ≡ None) (same_exact r.path p e) (at_front r.path (filter t rows) (stand_after_filter t r.path rows h.0)))))
+    (λ k. rw (k, e, k) (subst (λ q. at (filter t rows) q ≡ None) (same_exact r.path p e) (at_prefix r.path (filter t rows) (stand_after_filter t r.path rows h.0)))))
     (λ e. by_test (t r)
     (λ k. rw (k, e) (at_filter t p rows h.1))
     (λ k. rw (k, e) (at_filter t p rows h.1)))
@@ -176,11 +177,6 @@ at-without_path rows q p =
     by_test (is_same q p)
     (λ e. rw e (at_failed (λ row. not (is_same row.path q)) p (λ row h. ap not (ap (λ v. is_same v q) (h ∙ sym (same_exact q p e)) ∙ same_refl q)) rows))
     (λ e. rw e (at_passed (λ row. not (is_same row.path q)) p (λ row h. ap not (ap (λ v. is_same v q) h ∙ same_sym_false q p e)) rows))
-
--- the row that a change makes of a path
-abbrev pub row_of : PathBytes → Change → Option Row
-row_of path (Put attrs) = Some (record { path = path; attrs = attrs })
-row_of path Remove = None
 
 -- what there is at a path after a commit
 pub at-after : (rows : List Row) (q : PathBytes) (change : Change) (p : PathBytes) → at (after rows q change) p ≡ cond (is_same q p) (row_of q change) (at rows p)

@@ -1,5 +1,5 @@
 -- Tables of rows, and what a commit makes of one.
-use Rattle.std.specs.Prelude.{◌≡◌, ◌≢◌, ℕ, Bool, true, false, not, List, [], ◌∷◌, ◌++◌, ◌&&◌, Option, is_some, filter, find, slice_get}
+use Rattle.std.specs.Prelude.{◌≡◌, ◌≢◌, ℕ, Bool, true, false, not, List, [], ◌∷◌, ◌++◌, ◌&&◌, Option, None, Some, is_some, filter, find, slice_get}
 use Rattle.std.specs.Option.{option_map_or}
 use Rattle.std.specs.List.{AllByRecursion}
 use Rattle.md_value.specs.Values.{PathBytes, is_same, is_before}
@@ -53,6 +53,11 @@ with_row rows row = rows_before row.path rows ++ row ∷ rows_after row.path row
 -- the rows without a row of the path
 abbrev pub without_path : List Row → PathBytes → List Row
 without_path rows path = filter (λ row. not (is_same row.path path)) rows
+
+-- the row that a change gives a path
+abbrev pub row_of : PathBytes → Change → Option Row
+row_of path (Put attrs) = Some (record { path = path; attrs = attrs })
+row_of path Remove = None
 
 -- the table after a commit of the change at the path
 abbrev pub after : List Row → PathBytes → Change → List Row

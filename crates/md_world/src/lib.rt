@@ -1,4 +1,4 @@
-//! Rows, tables, changes, parts, notices and orders.
+//! Rows, tables, changes, parts, notices, orders and counters of row reads.
 #![tactic(auto)]
 
 ghost use Rattle.std.specs.Prelude.{◌≡◌, ◌==◌, [], IfOk, map};
@@ -6,11 +6,13 @@ ghost use Rattle.md_world.specs.Tables.{shown, same_row};
 
 mod laws;
 mod order;
+mod steps;
 
 pub use laws::limits_are_standard;
 use md_value::{Attrs, Copied, Items, Path};
 pub use order::{NotShown, Order, SortKey};
 use std::alloc::{AllocError, Global};
+pub use steps::Steps;
 
 /// The attribute that is searched and not shown.
 pub const TEXT_CONTENT: &str = "kMDItemTextContent";

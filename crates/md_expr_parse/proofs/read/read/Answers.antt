@@ -17,7 +17,7 @@ returns-in_default c = without_items c.args.tokens.items (search rules)
 pub returns-in_default-measure : goal.returns-in_default-measure
 returns-in_default-measure c = not_accepted c.args.tokens.items c.in-Some.items.items (search rules) (search rules)
 
--- what the survey told
+-- what the survey found
 Measured : List Item → Place → Type 0
 Measured is p = (accepts false 0 is ≡ true) × (p.deepest ≡ deepest 0 is) × (p.comparisons ≡ comparisons_in is)
 

@@ -12,7 +12,7 @@ pub loop-path-preserved : goal.loop-path-preserved
 loop-path-preserved g c =
     let fits : FitsSigned w32 c.args.offset = search rules in
     let l = c.loop-path in
-    let told = g.T.Tree.content c.args.tree.now in
+    let known = g.T.Tree.content c.args.tree.now in
     let before = g.T.Tree.faults c.args.tree.now in
     let between = g.T.Tree.faults l.tree in
     let now = g.T.Tree.faults c.import_path.new.tree in
@@ -20,10 +20,10 @@ loop-path-preserved g c =
     let path = c.path-item.result in
     let counted = simp to_z-of_z at c.in_ok-import_path.ensures.counts in
     let so = simp to_z-of_z at l.invariant.imports in
-    let counts : CountsPath told between now c.args.offset path l.report c.import_path.new.report = rw (sym l.invariant.content) counted in
-    let fronts = take_more paths l.path-index path c.loop-path-test.true ∙ ap (λ (x : PathBytes). take l.path-index paths ++ x ∷ []) (sym c.path-item.is) in
-    let more = imports_more told before c.args.offset between now (take l.path-index paths) l.report c.import_path.new.report path so counts in
-    let imports : Imports told before now c.args.offset (take (l.path-index + 1) paths) c.import_path.new.report = rw fronts more in
+    let counts : CountsPath known between now c.args.offset path l.report c.import_path.new.report = rw (sym l.invariant.content) counted in
+    let prefixes = take_more paths l.path-index path c.loop-path-test.true ∙ ap (λ (x : PathBytes). take l.path-index paths ++ x ∷ []) (sym c.path-item.is) in
+    let more = imports_more known before c.args.offset between now (take l.path-index paths) l.report c.import_path.new.report path so counts in
+    let imports : Imports known before now c.args.offset (take (l.path-index + 1) paths) c.import_path.new.report = rw prefixes more in
     record {
       content = c.in_ok-import_path.ensures.content ∙ l.invariant.content;
       later = omega (arith, l.invariant.later, c.in_ok-import_path.ensures.later);

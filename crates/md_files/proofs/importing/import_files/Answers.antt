@@ -5,7 +5,7 @@ use Rattle.md_source.specs.declared.tree.Entry.{Entry}
 use Rattle.md_files.specs.Answers.{IsRead, Gives}
 use Rattle.md_files.specs.Additions.{CountsFiles, noted}
 use Rattle.md_files.specs.Findings.Finding.{listed}
-use Rattle.md_files.specs.Reports.{Report}
+use Rattle.md_files.specs.Reports.{FileReport}
 use Rattle.md_files.proofs.CountedFiles.{files_more}
 use Rattle.md_files.proofs.importing.import_files.Goals as goal
 
@@ -13,7 +13,7 @@ pub loop-entry-preserved : goal.loop-entry-preserved
 loop-entry-preserved g c =
     let fits : FitsSigned w32 c.args.offset = search rules in
     let l = c.loop-entry in
-    let told = g.T.Tree.content c.args.tree.now in
+    let known = g.T.Tree.content c.args.tree.now in
     let before = g.T.Tree.faults c.args.tree.now in
     let between = g.T.Tree.faults l.tree in
     let now = g.T.Tree.faults c.read_file.new.tree in
@@ -22,13 +22,13 @@ loop-entry-preserved g c =
     let given = c.in_ok-asked.asked in
     let asked = simp to_z-of_z at c.in_ok-asked.ensures.asked in
     let so = simp to_z-of_z at l.invariant.counts in
-    let gives : Gives (IsRead told between now entry) c.args.offset given = rw (sym l.invariant.content) asked in
-    let fronts = take_more entries l.entry-index entry c.loop-entry-test.true ∙ ap (λ (x : Entry). take l.entry-index entries ++ x ∷ []) (sym c.entry-item.is) in
-    let more = files_more told before c.args.offset between now (take l.entry-index entries) c.args.report.now l.report entry given so gives in
-    let is = c.in_ok-add_listed.ensures ∙ ap (λ (r : Report). noted r (listed entry.path given)) c.in_ok-push_count.ensures in
-    let counts : CountsFiles told before now c.args.offset (take (l.entry-index + 1) entries) c.args.report.now c.add_listed.new.self =
-    subst (λ (r : Report). CountsFiles told before now c.args.offset (take (l.entry-index + 1) entries) c.args.report.now r) (sym is)
-    (rw fronts more) in
+    let gives : Gives (IsRead known between now entry) c.args.offset given = rw (sym l.invariant.content) asked in
+    let prefixes = take_more entries l.entry-index entry c.loop-entry-test.true ∙ ap (λ (x : Entry). take l.entry-index entries ++ x ∷ []) (sym c.entry-item.is) in
+    let more = files_more known before c.args.offset between now (take l.entry-index entries) c.args.report.now l.report entry given so gives in
+    let is = c.in_ok-add_listed.ensures ∙ ap (λ (r : FileReport). noted r (listed entry.path given)) c.in_ok-push_count.ensures in
+    let counts : CountsFiles known before now c.args.offset (take (l.entry-index + 1) entries) c.args.report.now c.add_listed.new.self =
+    subst (λ (r : FileReport). CountsFiles known before now c.args.offset (take (l.entry-index + 1) entries) c.args.report.now r) (sym is)
+    (rw prefixes more) in
     record {
       content = c.in_ok-asked.ensures.content ∙ l.invariant.content;
       later = omega (arith, l.invariant.later, c.in_ok-asked.ensures.later);

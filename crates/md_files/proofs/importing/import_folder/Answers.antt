@@ -17,13 +17,13 @@ import_files-requires g c =
 pub returns-in-Ok-clause-counts : goal.returns-in-Ok-clause-counts
 returns-in-Ok-clause-counts g c =
     let fits : FitsSigned w32 c.args.offset = search rules in
-    let told = g.T.Tree.content c.args.tree.now in
+    let known = g.T.Tree.content c.args.tree.now in
     let before = g.T.Tree.faults c.args.tree.now in
     let now = g.T.Tree.faults c.import_files.new.tree in
     let made = simp to_z-of_z at c.import_files.ensures.counts in
-    let counts : OnOk c.import_files.result (CountsFiles told before now c.args.offset c.deref.result.now c.args.report.now c.import_files.new.report) =
+    let counts : OnOk c.import_files.result (CountsFiles known before now c.args.offset c.deref.result.now c.args.report.now c.import_files.new.report) =
     rw (sym c.in-Ok.ensures.content, sym c.in-Ok.ensures.cause) made in
-    let is_listed : IsListed told c.args.path.now c.deref.result.now =
+    let is_listed : IsListed known c.args.path.now c.deref.result.now =
     rw c.deref.ensures.value
-    (listed told c.args.path.now c.in-Ok.entries.items c.in_path_order-entries.result.items c.in-Ok.ensures.listing c.in-Ok.ensures.folder c.in-Ok.ensures.entries c.in_path_order-entries.ensures.same c.in_path_order-entries.ensures.ordered) in
-    on_ok _ _ (path_folder told before c.args.offset now c.args.path.now c.deref.result.now c.args.report.now c.import_files.new.report c.requires is_listed) c.import_files.result counts
+    (listed known c.args.path.now c.in-Ok.entries.items c.in_path_order-entries.result.items c.in-Ok.ensures.listing c.in-Ok.ensures.folder c.in-Ok.ensures.entries c.in_path_order-entries.ensures.same c.in_path_order-entries.ensures.ordered) in
+    on_ok _ _ (path_folder known before c.args.offset now c.args.path.now c.deref.result.now c.args.report.now c.import_files.new.report c.requires is_listed) c.import_files.result counts

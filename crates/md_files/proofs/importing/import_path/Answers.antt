@@ -9,11 +9,11 @@ use Rattle.md_files.proofs.importing.import_path.Goals as goal
 pub returns-in-Ok-clause-counts : goal.returns-in-Ok-clause-counts
 returns-in-Ok-clause-counts g c =
     let fits : FitsSigned w32 c.args.offset = search rules in
-    let told = g.T.Tree.content c.args.tree.now in
+    let known = g.T.Tree.content c.args.tree.now in
     let before = g.T.Tree.faults c.args.tree.now in
     let now = g.T.Tree.faults c.import_file.new.tree in
-    let is_entry : IsEntry told c.args.path.now c.in-Ok.entry = record { named = c.in-Ok.ensures.asked; moment = c.in-Ok.ensures.moment; known = c.in-Ok.ensures.entry } in
+    let is_entry : IsEntry known c.args.path.now c.in-Ok.entry = record { named = c.in-Ok.ensures.asked; moment = c.in-Ok.ensures.moment; agrees = c.in-Ok.ensures.entry } in
     let made = simp to_z-of_z at c.import_file.ensures.counts in
-    let counts : OnOk c.import_file.result (CountsFile told before now c.args.offset c.in-Ok.entry c.args.report.now c.import_file.new.report) =
+    let counts : OnOk c.import_file.result (CountsFile known before now c.args.offset c.in-Ok.entry c.args.report.now c.import_file.new.report) =
     rw (sym c.in-Ok.ensures.content, sym c.in-Ok.ensures.cause) made in
-    on_ok _ _ (path_file told before c.args.offset now c.args.path.now c.in-Ok.entry c.args.report.now c.import_file.new.report is_entry) c.import_file.result counts
+    on_ok _ _ (path_file known before c.args.offset now c.args.path.now c.in-Ok.entry c.args.report.now c.import_file.new.report is_entry) c.import_file.result counts

@@ -5,7 +5,7 @@ use Rattle.md_value.specs.Values.{PathBytes}
 use Rattle.md_files.specs.Answers.{IsAsked, Gives}
 use Rattle.md_files.specs.Additions.{noted}
 use Rattle.md_files.specs.Findings.Finding.{named}
-use Rattle.md_files.specs.Reports.{Report}
+use Rattle.md_files.specs.Reports.{FileReport}
 use Rattle.md_files.proofs.ShownFiles.{IsShowing, showing_more, shows_so}
 use Rattle.md_files.proofs.Causes.{shows_cause, shows_absent, shows_complete}
 use Rattle.md_files.proofs.showing.show.Goals as goal
@@ -14,7 +14,7 @@ pub loop-path-preserved : goal.loop-path-preserved
 loop-path-preserved g c =
     let fits : FitsSigned w32 c.args.offset = search rules in
     let l = c.loop-path in
-    let told = g.T.Tree.content c.args.tree.now in
+    let known = g.T.Tree.content c.args.tree.now in
     let before = g.T.Tree.faults c.args.tree.now in
     let between = g.T.Tree.faults l.tree in
     let now = g.T.Tree.faults c.ask_file.new.tree in
@@ -23,13 +23,13 @@ loop-path-preserved g c =
     let given = c.in_ok-asked.asked in
     let asked = simp to_z-of_z at c.in_ok-asked.ensures.asked in
     let so = simp to_z-of_z at l.invariant.shows in
-    let gives : Gives (IsAsked told between now path) c.args.offset given = rw (sym l.invariant.content) asked in
-    let fronts = take_more paths l.path-index path c.loop-path-test.true ∙ ap (λ (x : PathBytes). take l.path-index paths ++ x ∷ []) (sym c.path-item.is) in
-    let more = showing_more told before c.args.offset c.args.raw c.args.marker.now c.args.names.now between now (take l.path-index paths) l.report l.some path given so gives in
-    let is = c.in_ok-add_named.ensures ∙ ap (λ (r : Report). noted r (named path given)) c.in_ok-some.ensures.text in
-    let shows : IsShowing told before now c.args.offset c.args.raw c.args.marker.now c.args.names.now (take (l.path-index + 1) paths) c.add_named.new.self c.in_ok-some.some =
-    subst (λ (r : Report). IsShowing told before now c.args.offset c.args.raw c.args.marker.now c.args.names.now (take (l.path-index + 1) paths) r c.in_ok-some.some) (sym is)
-    (rw (fronts, c.in_ok-some.ensures.some) more) in
+    let gives : Gives (IsAsked known between now path) c.args.offset given = rw (sym l.invariant.content) asked in
+    let prefixes = take_more paths l.path-index path c.loop-path-test.true ∙ ap (λ (x : PathBytes). take l.path-index paths ++ x ∷ []) (sym c.path-item.is) in
+    let more = showing_more known before c.args.offset c.args.raw c.args.marker.now c.args.names.now between now (take l.path-index paths) l.report l.some path given so gives in
+    let is = c.in_ok-add_named.ensures ∙ ap (λ (r : FileReport). noted r (named path given)) c.in_ok-some.ensures.text in
+    let shows : IsShowing known before now c.args.offset c.args.raw c.args.marker.now c.args.names.now (take (l.path-index + 1) paths) c.add_named.new.self c.in_ok-some.some =
+    subst (λ (r : FileReport). IsShowing known before now c.args.offset c.args.raw c.args.marker.now c.args.names.now (take (l.path-index + 1) paths) r c.in_ok-some.some) (sym is)
+    (rw (prefixes, c.in_ok-some.ensures.some) more) in
     record {
       content = c.in_ok-asked.ensures.content ∙ l.invariant.content;
       later = omega (arith, l.invariant.later, c.in_ok-asked.ensures.later);

@@ -1,16 +1,16 @@
 use Rattle.std.proofs.Common.{length, refl, ap, sym, arith, Err}
 use Rattle.md_files.specs.Folders.{IsListed, AreRead}
-use Rattle.md_find.specs.declared.finding.Found.TheVariants.{Report}
+use Rattle.md_find.specs.declared.finding.SearchResult.TheVariants.{Report}
 use Rattle.md_find.specs.Folders.{files, nothing, full}
 use Rattle.md_find.proofs.Below.{too_many}
 use Rattle.md_find.proofs.finding.find_below.Goals as goal
 
 pub returns-then-len-gt-MOST_FILES-clause-finds : goal.returns-then-len-gt-MOST_FILES-clause-finds
 returns-then-len-gt-MOST_FILES-clause-finds g c =
-    let told = g.T.Tree.content c.args.tree.now in
+    let known = g.T.Tree.content c.args.tree.now in
     record {
       folder = full;
-      held = (c.in-Ok.ensures.cause, too_many told c.args.spec.scope c.in-Ok.entries.items c.in-Ok.ensures.listed (omega (arith, c.if-len-gt-MOST_FILES.true, c.len.ensures)));
+      held = (c.in-Ok.ensures.cause, too_many known c.args.spec.scope c.in-Ok.entries.items c.in-Ok.ensures.listed (omega (arith, c.if-len-gt-MOST_FILES.true, c.len.ensures)));
       is = refl;
     }
 
@@ -19,13 +19,13 @@ find_among-requires-after_bounds g c = λ κs bounds. rw c.deref.ensures.value c
 
 pub returns-in-Ok-clause-finds : goal.returns-in-Ok-clause-finds
 returns-in-Ok-clause-finds g c =
-    let told = g.T.Tree.content c.args.tree.now in
+    let known = g.T.Tree.content c.args.tree.now in
     let before = g.T.Tree.faults c.args.tree.now in
     let now = g.T.Tree.faults c.find_among.new.tree in
     let entries = c.deref.result.now in
     let among = c.in_ok-report-in-Ok.ensures.found in
-    let listed : IsListed told c.args.spec.scope entries = rw c.deref.ensures.value c.in-Ok.ensures.listed in
-    let asked : AreRead told before now entries among.answers = rw (sym c.in-Ok.ensures.content, sym c.in-Ok.ensures.cause) among.asked in
+    let listed : IsListed known c.args.spec.scope entries = rw c.deref.ensures.value c.in-Ok.ensures.listed in
+    let asked : AreRead known before now entries among.answers = rw (sym c.in-Ok.ensures.content, sym c.in-Ok.ensures.cause) among.asked in
     record {
       folder = files entries among.answers;
       held = (listed, omega (arith, c.if-len-gt-MOST_FILES.false, c.len.ensures, ap length c.deref.ensures.value), asked);

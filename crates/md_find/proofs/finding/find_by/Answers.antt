@@ -30,7 +30,7 @@ pub loop-batch-preserved : goal.loop-batch-preserved
 loop-batch-preserved g c =
     let l = c.loop-batch in
     let so = l.invariant in
-    let told = g.T.Tree.content c.args.tree.now in
+    let known = g.T.Tree.content c.args.tree.now in
     let was = g.T.Tree.faults c.args.tree.now in
     let between = g.T.Tree.faults l.tree in
     let now = g.T.Tree.faults c.read_files.new.tree in
@@ -41,14 +41,14 @@ loop-batch-preserved g c =
     let same : entries_of files ≡ batch = c.in_ok-files.ensures.entries in
     let step : chunks_rest l.batch-iterator ≡ batch ++ rest = c.in-Some.ensures.steps.1.0 in
     let made : c.in_ok-files-2.files.items ≡ map (seen_file condition) files = c.in_ok-files-2.ensures in
-    let read : AreRead told between now (entries_of files) (answers_of files) = rw (same, sym so.3) c.in_ok-files.ensures.read in
+    let read : AreRead known between now (entries_of files) (answers_of files) = rw (same, sym so.3) c.in_ok-files.ensures.read in
     let noted : c.note.new.report ≡ noted_all l.report (filter_map reason_of (map (seen_file condition) files)) =
     c.in_ok-note.ensures ∙ ap (λ (made : List SeenFile). noted_all l.report (filter_map reason_of made)) (c.deref.ensures.value ∙ made) in
     let kept : c.keep.new.hits.items ≡ l.hits.items ++ filter_map hit_of (map (seen_file condition) files) =
     c.in_ok-keep.ensures ∙ ap (λ (made : List SeenFile). l.hits.items ++ filter_map hit_of made) made in (
       so.0 ++ entries_of files,
       append_assoc so.0 (entries_of files) rest ∙ ap (λ (b : List Entry). so.0 ++ (b ++ rest)) same ∙ ap (λ (left : List Entry). so.0 ++ left) (sym step) ∙ so.1,
-      gathers_more told was between now condition so.0 l.report l.hits.items so.2 files c.note.new.report c.keep.new.hits.items read noted kept,
+      gathers_more known was between now condition so.0 l.report l.hits.items so.2 files c.note.new.report c.keep.new.hits.items read noted kept,
       c.in_ok-files.ensures.content ∙ so.3,
       omega (arith, so.4, c.in_ok-files.ensures.later),
       search rules,
@@ -61,8 +61,8 @@ returns-clause-found g c =
     let none = nil_from_length (chunks_rest c.loop-batch.batch-iterator) c.in-None.ensures.steps.1.0 in
     let all : so.0 ≡ c.args.entries.now = sym (append-nil so.0) ∙ ap (λ (left : List Entry). so.0 ++ left) (sym none) ∙ so.1 in
     let text : string_bytes c.in_ok-text.text ≡ found_text c.args.output c.loop-batch.hits.items = c.in_ok-text.ensures ∙ ap (λ (paths : List PathBytes). found_text c.args.output paths) c.as_slice.ensures.value in
-    let told = g.T.Tree.content c.args.tree.now in
+    let known = g.T.Tree.content c.args.tree.now in
     let was = g.T.Tree.faults c.args.tree.now in
     let now = g.T.Tree.faults c.loop-batch.tree in
-    found_by told was now c.args.output c.args.entries.now c.args.filter.now c.loop-batch.report c.push_out.new.self c.loop-batch.hits.items (rw (sym all) so.2) (string_bytes c.in_ok-text.text) text
+    found_by known was now c.args.output c.args.entries.now c.args.filter.now c.loop-batch.report c.push_out.new.self c.loop-batch.hits.items (rw (sym all) so.2) (string_bytes c.in_ok-text.text) text
     (c.in_ok-push_out.ensures ∙ ap (λ t. record c.loop-batch.report { out = c.loop-batch.report.out ++ t }) c.as_str.ensures.value)

@@ -15,7 +15,7 @@ loop-file-preserved c =
     let rest = into_iter_items c.next.new.self in
     let step : into_iter_items c.loop-file.file-iterator ≡ file ∷ rest = c.in-Some.ensures.steps.0 in
     record {
-      front = append_assoc yielded (file ∷ []) rest ∙ ap (λ files. yielded ++ files) (sym step) ∙ before.front;
+      prefix = append_assoc yielded (file ∷ []) rest ∙ ap (λ files. yielded ++ files) (sym step) ∙ before.prefix;
       kept = c.in_ok-keep_file.ensures ∙ ap (λ (paths : List PathBytes). paths ++ cons_option (hit_of file) []) before.kept
           ∙ append_assoc held (filter_map hit_of yielded) (cons_option (hit_of file) []) ∙ ap (λ (paths : List PathBytes). held ++ paths) (sym (filter_map-append hit_of yielded (file ∷ [])));
     }

@@ -7,6 +7,6 @@ use Rattle.md_find.proofs.finding.keep.Given as goal
 -- the hits among the files so far are kept
 abbrev pub invariant-loop-file : goal.invariant-loop-file
 invariant-loop-file l = record {
-  front : l.yielded ++ into_iter_items l.file-iterator ≡ l.fn.files.items;
+  prefix : l.yielded ++ into_iter_items l.file-iterator ≡ l.fn.files.items;
   kept : l.hits.items ≡ l.initial.hits.items ++ filter_map hit_of l.yielded;
 }

@@ -2,8 +2,8 @@ use Rattle.std.proofs.Common.{◌∷◌, ◌++◌, [], ◌+◌, ◌∙◌, List,
 use Rattle.std.proofs.lemmas.List.{take_more}
 use Rattle.md_machine.specs.declared.Event.{Event}
 use Rattle.md_machine.specs.declared.Reply.{Reply}
-use Rattle.md_hub.specs.Told.{IsTold}
-use Rattle.md_hub.proofs.Refused.{told_more}
+use Rattle.md_hub.specs.Received.{IsReceived}
+use Rattle.md_hub.proofs.Refused.{received_more}
 use Rattle.md_hub.proofs.runs.run.Goals as goal
 
 pub loop-event-preserved : goal.loop-event-preserved
@@ -13,7 +13,7 @@ loop-event-preserved c =
     let e = c.event-item.result in
     let r = c.step-reply.result in
     let new = c.step-reply.new.self in
-    let told = told_more c.args.limits (take l.event-index events) l.replies.items l.hub l.invariant e r new c.step-reply.ensures in
-    let fronts = take_more events l.event-index e c.loop-event-test.true ∙ ap (λ (x : Event). take l.event-index events ++ x ∷ []) (sym c.event-item.is) in
-    subst (λ (rs : List Reply). IsTold c.args.limits (take (l.event-index + 1) events) rs new) (sym c.in_ok-push.ensures.items)
-    (subst (λ (es : List Event). IsTold c.args.limits es (l.replies.items ++ r ∷ []) new) (sym fronts) told)
+    let received = received_more c.args.limits (take l.event-index events) l.replies.items l.hub l.invariant e r new c.step-reply.ensures in
+    let prefixes = take_more events l.event-index e c.loop-event-test.true ∙ ap (λ (x : Event). take l.event-index events ++ x ∷ []) (sym c.event-item.is) in
+    subst (λ (rs : List Reply). IsReceived c.args.limits (take (l.event-index + 1) events) rs new) (sym c.in_ok-push.ensures.items)
+    (subst (λ (es : List Event). IsReceived c.args.limits es (l.replies.items ++ r ∷ []) new) (sym prefixes) received)

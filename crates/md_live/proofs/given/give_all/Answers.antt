@@ -11,19 +11,19 @@ loop-line-preserved g c =
     let fits : FitsSigned w32 c.args.offset = search rules in
     let l = c.loop-line in
     let offset = c.args.offset in
-    let told = g.T.Tree.content c.args.tree.now in
+    let known = g.T.Tree.content c.args.tree.now in
     let before = g.T.Tree.faults c.args.tree.now in
     let between = g.T.Tree.faults l.tree in
     let now = g.T.Tree.faults c.give.new.tree in
     let lines = c.args.lines.now in
     let line = c.line-item.result in
     let given = c.in_ok-give.field-0 in
-    let so : AreGiven offset told before between (take l.line-index lines) l.givens.items = simp to_z-of_z at l.invariant.given in
-    let asks : IsGiven offset told between now line given = rw (sym l.invariant.content) (simp to_z-of_z at c.in_ok-give.ensures.given) in
-    let fronts = take_more lines l.line-index line c.loop-line-test.true ∙ ap (λ (x : Line). take l.line-index lines ++ x ∷ []) (sym c.line-item.is) in
-    let more = in_turn_more (IsGiven offset told) before between now (take l.line-index lines) l.givens.items line given so asks in
+    let so : AreGiven offset known before between (take l.line-index lines) l.givens.items = simp to_z-of_z at l.invariant.given in
+    let asks : IsGiven offset known between now line given = rw (sym l.invariant.content) (simp to_z-of_z at c.in_ok-give.ensures.given) in
+    let prefixes = take_more lines l.line-index line c.loop-line-test.true ∙ ap (λ (x : Line). take l.line-index lines ++ x ∷ []) (sym c.line-item.is) in
+    let more = in_turn_more (IsGiven offset known) before between now (take l.line-index lines) l.givens.items line given so asks in
     record {
       content = c.in_ok-give.ensures.content ∙ l.invariant.content;
       later = omega (arith, l.invariant.later, c.in_ok-give.ensures.later);
-      given = simp to_z-of_z (rw (fronts, c.in_ok-push.ensures.items) more);
+      given = simp to_z-of_z (rw (prefixes, c.in_ok-push.ensures.items) more);
     }

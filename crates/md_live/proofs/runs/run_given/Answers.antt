@@ -1,11 +1,11 @@
 use Rattle.std.proofs.Common.{ap, ◌∙◌}
 use Rattle.md_live.specs.Actions.{actions_of}
 use Rattle.md_live.specs.Telling.{Telling}
-use Rattle.md_live.proofs.Telling.{told_all}
+use Rattle.md_live.proofs.Telling.{known_all}
 use Rattle.md_live.proofs.runs.run_given.Goals as goal
 
 pub returns : goal.returns
 returns c =
     c.into_report.ensures
     ∙ ap (λ (t : Telling). t.report) c.in_ok-session.ensures
-    ∙ told_all (actions_of c.args.setting.now.moment c.args.setting.now.offset c.args.lines.now c.args.givens.items)
+    ∙ known_all (actions_of c.args.setting.now.moment c.args.setting.now.offset c.args.lines.now c.args.givens.items)

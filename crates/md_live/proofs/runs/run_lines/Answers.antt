@@ -2,7 +2,7 @@ use Rattle.std.proofs.Common.{◌≡◌, ◌⊎◌, inl, inr, suc, ◌∷◌, Li
 use Rattle.std.specs.Iterator.Adapters.{zip_first, zip_second}
 use Rattle.std.specs.Slice.Iter.{iter_rest}
 use Rattle.std.specs.Vec.Iter.{into_iter_items}
-use Rattle.md_files.specs.declared.asking.Asked.{Asked}
+use Rattle.md_files.specs.declared.asking.ImportResult.{ImportResult}
 use Rattle.md_script.specs.declared.script.Line.{Line}
 use Rattle.md_live.specs.Actions.{Action, action_of, actions_of}
 use Rattle.md_live.specs.Telling.{Telling, after_action, after_actions}
@@ -32,7 +32,7 @@ loop-line-preserved c =
       long = omega (arith, long, fewer, steps.1.1);
       rest = ap (λ (t : Telling). after_actions t (actions_of now offset lines givens)) new
           ∙ sym (ap (λ (ls : List Line). after_actions l.session (actions_of now offset ls (into_iter_items (zip_second l.line-iterator)))) first
-          ∙ ap (λ (gs : List (Option Asked)). after_actions l.session (actions_of now offset (line ∷ lines) gs)) second)
+          ∙ ap (λ (gs : List (Option ImportResult)). after_actions l.session (actions_of now offset (line ∷ lines) gs)) second)
           ∙ l.invariant.rest;
     }
 

@@ -14,7 +14,7 @@ loop-row-preserved c =
     let less = c.insert.ensures.spare in
     record {
       order = c.insert.ensures.order ∙ before.order;
-      front = append_assoc c.loop-row.yielded (c.in-Some.row ∷ []) (into_iter_items c.next.new.self) ∙ ap (λ rows. c.loop-row.yielded ++ rows) (sym step) ∙ before.front;
+      prefix = append_assoc c.loop-row.yielded (c.in-Some.row ∷ []) (into_iter_items c.next.new.self) ∙ ap (λ rows. c.loop-row.yielded ++ rows) (sym step) ∙ before.prefix;
       room = omega arith;
       rows = λ table h shown.
           one_more c.args.sorted.now.order table c.loop-row.yielded c.in-Some.row c.loop-row.sorted.rows c.insert.new.self.rows h (before.rows table h shown)

@@ -11,7 +11,7 @@ abbrev pub invariant-loop-row : goal.invariant-loop-row
 invariant-loop-row l =
     record {
       order : l.sorted.order ≡ l.fn.sorted.order;
-      front : l.yielded ++ into_iter_items l.row-iterator ≡ l.fn.rows.items;
+      prefix : l.yielded ++ into_iter_items l.row-iterator ≡ l.fn.rows.items;
       room : length (into_iter_items l.row-iterator) ≤ l.sorted.spare;
       rows : (table : List Row) → IsTable table → IsInOrder l.fn.sorted.order table l.fn.sorted.rows → IsInOrder l.fn.sorted.order (with_rows table l.yielded) l.sorted.rows;
     }

@@ -19,29 +19,29 @@ returns-in-None-clause-refused c =
 
 pub loop-rest-preserved-in-Some-Nothing : goal.loop-rest-preserved-in-Some-Nothing
 loop-rest-preserved-in-Some-Nothing c =
-    let told : Some meaning.Nothing ≡ said c.first_line.result.0.now = search rules in
+    let known : Some meaning.Nothing ≡ said c.first_line.result.0.now = search rules in
     let more : length (lines c.loop-rest.rest.now) ≡ length (c.first_line.result.0.now ∷ lines c.first_line.result.1.now) = ap length c.first_line.ensures.lines in
     record {
-      outcome = quiet_step c.loop-rest.lines.items (c.loop-rest.number + 1) c.loop-rest.at_ms (lines c.loop-rest.rest.now) c.first_line.result.0.now (lines c.first_line.result.1.now) _ c.loop-rest.invariant.outcome c.first_line.ensures.lines told;
+      outcome = quiet_step c.loop-rest.lines.items (c.loop-rest.number + 1) c.loop-rest.at_ms (lines c.loop-rest.rest.now) c.first_line.result.0.now (lines c.first_line.result.1.now) _ c.loop-rest.invariant.outcome c.first_line.ensures.lines known;
       counted = omega (arith, more, c.loop-rest.invariant.counted);
     }
 
 pub loop-rest-preserved-in-Some-At : goal.loop-rest-preserved-in-Some-At
 loop-rest-preserved-in-Some-At c =
-    let told : Some (meaning.At c.in-Some-At.ms) ≡ said c.first_line.result.0.now = search rules in
+    let known : Some (meaning.At c.in-Some-At.ms) ≡ said c.first_line.result.0.now = search rules in
     let more : length (lines c.loop-rest.rest.now) ≡ length (c.first_line.result.0.now ∷ lines c.first_line.result.1.now) = ap length c.first_line.ensures.lines in
     record {
-      outcome = at_step c.loop-rest.lines.items (c.loop-rest.number + 1) c.loop-rest.at_ms (lines c.loop-rest.rest.now) c.first_line.result.0.now (lines c.first_line.result.1.now) _ c.loop-rest.invariant.outcome c.first_line.ensures.lines c.in-Some-At.ms told;
+      outcome = at_step c.loop-rest.lines.items (c.loop-rest.number + 1) c.loop-rest.at_ms (lines c.loop-rest.rest.now) c.first_line.result.0.now (lines c.first_line.result.1.now) _ c.loop-rest.invariant.outcome c.first_line.ensures.lines c.in-Some-At.ms known;
       counted = omega (arith, more, c.loop-rest.invariant.counted);
     }
 
 pub loop-rest-preserved : goal.loop-rest-preserved
 loop-rest-preserved c =
-    let told : Some (meaning.Says c.in-Some-Says.what) ≡ said c.first_line.result.0.now = search rules in
+    let known : Some (meaning.Says c.in-Some-Says.what) ≡ said c.first_line.result.0.now = search rules in
     let pushed : c.push.new.self.items ≡ c.loop-rest.lines.items ++ record { number = c.loop-rest.number + 1; at_ms = c.loop-rest.at_ms; what = c.in-Some-Says.what } ∷ [] = search rules in
     let more : length (lines c.loop-rest.rest.now) ≡ length (c.first_line.result.0.now ∷ lines c.first_line.result.1.now) = ap length c.first_line.ensures.lines in
     record {
-      outcome = said_step c.loop-rest.lines.items (c.loop-rest.number + 1) c.loop-rest.at_ms (lines c.loop-rest.rest.now) c.first_line.result.0.now (lines c.first_line.result.1.now) _ c.loop-rest.invariant.outcome c.first_line.ensures.lines c.push.new.self.items c.in-Some-Says.what told pushed;
+      outcome = said_step c.loop-rest.lines.items (c.loop-rest.number + 1) c.loop-rest.at_ms (lines c.loop-rest.rest.now) c.first_line.result.0.now (lines c.first_line.result.1.now) _ c.loop-rest.invariant.outcome c.first_line.ensures.lines c.push.new.self.items c.in-Some-Says.what known pushed;
       counted = omega (arith, more, c.loop-rest.invariant.counted);
     }
 

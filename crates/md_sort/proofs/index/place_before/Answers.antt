@@ -13,4 +13,4 @@ returns-clause-value c =
     let slots = c.args.slots.now.items in
     let test = λ (row : Row). is_before row.path c.args.path.now in
     let parted = parted_slots find test slots c.requires.held (parted_by_path c.args.path.now (rows_at find slots) c.requires.ordered) in
-    c.partition_point.ensures.value (λ slot. passes test (find slot)) (λ slot passed fits told. search rules) parted ∙ prefix_slots find test slots c.requires.held
+    c.partition_point.ensures.value (λ slot. passes test (find slot)) (λ slot passed fits known. search rules) parted ∙ prefix_slots find test slots c.requires.held

@@ -13,4 +13,4 @@ returns-clause-value c =
     let slots = c.args.slots.now.items in
     let test = λ (other : Row). row_before c.args.keys.now other c.args.row.now in
     let rows_parted = parted_slots find test slots c.requires.held (parted c.args.keys.now c.args.row.now (rows_at find slots) c.requires.ordered) in
-    c.partition_point.ensures.value (λ slot. passes test (find slot)) (λ slot passed fits told. search rules) rows_parted ∙ prefix_slots find test slots c.requires.held
+    c.partition_point.ensures.value (λ slot. passes test (find slot)) (λ slot passed fits known. search rules) rows_parted ∙ prefix_slots find test slots c.requires.held

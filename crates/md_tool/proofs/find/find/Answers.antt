@@ -19,8 +19,8 @@ pub returns-clause-asks : goal.returns-clause-asks
 returns-clause-asks g c =
     let moment_fits : FitsSigned w64 c.in-Ok-now.moment = search rules in
     let offset_fits : FitsSigned w32 c.args.offset = search rules in
-    let shown : IsShown (record { told = g.C.Clock.moment c.args.clock.now; faults = g.C.Clock.faults c.args.clock.now }) (record { told = g.C.Clock.moment c.now.new.self; faults = g.C.Clock.faults c.now.new.self }) c.in-Ok-now.moment =
-    record { range = c.in-Ok-now.ensures.range; told = c.in-Ok-now.ensures.told; kept = c.in-Ok-now.ensures.cause.kept } in
+    let shown : IsShown (record { known = g.C.Clock.moment c.args.clock.now; faults = g.C.Clock.faults c.args.clock.now }) (record { known = g.C.Clock.moment c.now.new.self; faults = g.C.Clock.faults c.now.new.self }) c.in-Ok-now.moment =
+    record { range = c.in-Ok-now.ensures.range; known = c.in-Ok-now.ensures.known; kept = c.in-Ok-now.ensures.cause.kept } in
     let found = simp (to_z-of_z, c.in_ok-copy.ensures) at c.in_ok-found.ensures.finds in
     λ script.
     ok_then _ _
@@ -31,9 +31,9 @@ pub returns-clause-tells : goal.returns-clause-tells
 returns-clause-tells g c =
     let moment_fits : FitsSigned w64 c.in-Ok-now.moment = search rules in
     let offset_fits : FitsSigned w32 c.args.offset = search rules in
-    let shown : IsShown (record { told = g.C.Clock.moment c.args.clock.now; faults = g.C.Clock.faults c.args.clock.now }) (record { told = g.C.Clock.moment c.now.new.self; faults = g.C.Clock.faults c.now.new.self }) c.in-Ok-now.moment =
-    record { range = c.in-Ok-now.ensures.range; told = c.in-Ok-now.ensures.told; kept = c.in-Ok-now.ensures.cause.kept } in
-    let given : IsGiven (record { expr = c.in-Ok.expr; moment = c.in-Ok-now.moment; offset = c.args.offset; scope = c.args.scope.now }) (record { told = g.T.Tree.content c.args.tree.now; faults = g.T.Tree.faults c.args.tree.now }) (record { told = g.T.Tree.content c.find.new.tree; faults = g.T.Tree.faults c.find.new.tree }) c.in_ok-found.found =
+    let shown : IsShown (record { known = g.C.Clock.moment c.args.clock.now; faults = g.C.Clock.faults c.args.clock.now }) (record { known = g.C.Clock.moment c.now.new.self; faults = g.C.Clock.faults c.now.new.self }) c.in-Ok-now.moment =
+    record { range = c.in-Ok-now.ensures.range; known = c.in-Ok-now.ensures.known; kept = c.in-Ok-now.ensures.cause.kept } in
+    let given : IsGiven (record { expr = c.in-Ok.expr; moment = c.in-Ok-now.moment; offset = c.args.offset; scope = c.args.scope.now }) (record { known = g.T.Tree.content c.args.tree.now; faults = g.T.Tree.faults c.args.tree.now }) (record { known = g.T.Tree.content c.find.new.tree; faults = g.T.Tree.faults c.find.new.tree }) c.in_ok-found.found =
     record {
       cause = c.in_ok-found.ensures.cause;
       form = simp to_z-of_z at c.in_ok-found.ensures.out_of_range;

@@ -22,8 +22,8 @@ returns-in-Ok-now-clause-asks g c =
     let moment_fits : FitsSigned w64 c.in-Ok-now.now = search rules in
     let offset_fits : FitsSigned w32 c.args.offset = search rules in
     let read : verdict c.args.bytes.now ≡ Ok c.lines.result.now = c.in-Ok.ensures.ok ∙ ap (λ (lines : List Line). Ok lines) (sym c.lines.ensures) in
-    let shown : IsShown (record { told = g.C.Clock.moment c.args.clock.now; faults = g.C.Clock.faults c.args.clock.now }) (record { told = g.C.Clock.moment c.now.new.self; faults = g.C.Clock.faults c.now.new.self }) c.in-Ok-now.now =
-    record { range = c.in-Ok-now.ensures.range; told = c.in-Ok-now.ensures.told; kept = c.in-Ok-now.ensures.cause.kept } in
+    let shown : IsShown (record { known = g.C.Clock.moment c.args.clock.now; faults = g.C.Clock.faults c.args.clock.now }) (record { known = g.C.Clock.moment c.now.new.self; faults = g.C.Clock.faults c.now.new.self }) c.in-Ok-now.now =
+    record { range = c.in-Ok-now.ensures.range; known = c.in-Ok-now.ensures.known; kept = c.in-Ok-now.ensures.cause.kept } in
     let made = simp to_z-of_z at c.of_lines.ensures.asks in
     ok_then _ _ (answers_runs c.args.offset c.args.bytes.now _ _ _ _ c.lines.result.now c.in-Ok-now.now read shown) c.of_lines.result made
 

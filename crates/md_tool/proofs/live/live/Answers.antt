@@ -16,8 +16,8 @@ returns-in-Err-Failed-clause-tells g c = ok_then _ _ (live_tells c.args.offset _
 
 pub returns-in_ok-report-in-Ok-clause-asks : goal.returns-in_ok-report-in-Ok-clause-asks
 returns-in_ok-report-in-Ok-clause-asks g c =
-    let read : IsRead (record { told = g.S.Source.left c.args.script.now; faults = g.S.Source.faults c.args.script.now }) (record { told = g.S.Source.left c.read_all.new.source; faults = g.S.Source.faults c.read_all.new.source }) c.in-Ok.bytes.items =
-    record { taken = c.in-Ok.ensures.taken; end = search rules; told = c.in-Ok.ensures.bytes; kept = c.in-Ok.ensures.kept } in
+    let read : IsRead (record { known = g.S.Source.left c.args.script.now; faults = g.S.Source.faults c.args.script.now }) (record { known = g.S.Source.left c.read_all.new.source; faults = g.S.Source.faults c.read_all.new.source }) c.in-Ok.bytes.items =
+    record { taken = c.in-Ok.ensures.taken; end = search rules; known = c.in-Ok.ensures.bytes; kept = c.in-Ok.ensures.kept } in
     lives_read c.args.offset _ _ c.in-Ok.bytes.items _ read (search rules)
 
 pub returns-in_ok-report-in-Ok-clause-tells : goal.returns-in_ok-report-in-Ok-clause-tells

@@ -8,13 +8,13 @@ pub returns-in-Some-clause-asks : goal.returns-in-Some-clause-asks
 returns-in-Some-clause-asks g c =
     let moment_fits : FitsSigned w64 c.args.now = search rules in
     let offset_fits : FitsSigned w32 c.args.offset = search rules in
-    let told = simp to_z-of_z at c.out_of_range.ensures in
-    ok_then _ _ (asks_misdated c.args.now c.args.offset c.args.lines.now _ _ c.in-Some.line c.in-Some.form (sym told ∙ c.in-Some.is) refl) c.line_out_of_range.result c.line_out_of_range.ensures
+    let known = simp to_z-of_z at c.out_of_range.ensures in
+    ok_then _ _ (asks_misdated c.args.now c.args.offset c.args.lines.now _ _ c.in-Some.line c.in-Some.form (sym known ∙ c.in-Some.is) refl) c.line_out_of_range.result c.line_out_of_range.ensures
 
 pub returns-clause-asks : goal.returns-clause-asks
 returns-clause-asks g c =
     let moment_fits : FitsSigned w64 c.args.now = search rules in
     let offset_fits : FitsSigned w32 c.args.offset = search rules in
-    let told = simp to_z-of_z at c.out_of_range.ensures in
+    let known = simp to_z-of_z at c.out_of_range.ensures in
     let ran = simp to_z-of_z at c.in_ok-made.ensures.headline in
-    rw c.of_files.ensures (run c.in_ok-made.made (sym told ∙ c.in_default.is) ran c.in_ok-made.ensures.content)
+    rw c.of_files.ensures (run c.in_ok-made.made (sym known ∙ c.in_default.is) ran c.in_ok-made.ensures.content)

@@ -20,10 +20,10 @@ pub returns-in-Ok-clause-leaves : goal.returns-in-Ok-clause-leaves
 returns-in-Ok-clause-leaves g c = leaves_words (texts c.args.words.now) _ _ c.in-Ok.command c.in-Ok.ensures.ok c.run_tool.ensures.leaves
 
 pub returns-in-Err-Usage-clause-leaves : goal.returns-in-Err-Usage-clause-leaves
-returns-in-Err-Usage-clause-leaves g c = λ command told. leaves_same command.what _
+returns-in-Err-Usage-clause-leaves g c = λ command known. leaves_same command.what _
 
 pub returns-in-Err-Memory-clause-leaves : goal.returns-in-Err-Memory-clause-leaves
-returns-in-Err-Memory-clause-leaves g c = λ command told. leaves_same command.what _
+returns-in-Err-Memory-clause-leaves g c = λ command known. leaves_same command.what _
 
 pub returns-in-Err-Usage-clause-ends : goal.returns-in-Err-Usage-clause-ends
 returns-in-Err-Usage-clause-ends g c =

@@ -12,7 +12,7 @@ loop-low-preserved-then-passes g c =
     let there : slice_get slots middle ≡ Some c.in-Some.slot = search rules in (
       omega arith,
       c.loop-low.invariant.1,
-      (λ test told parted. passed test slots parted low high middle c.in-Some.slot (c.loop-low.invariant.2 test told parted) there (sym (told c.in-Some.slot true (search rules) (search rules)))),
+      (λ test known parted. passed test slots parted low high middle c.in-Some.slot (c.loop-low.invariant.2 test known parted) there (sym (known c.in-Some.slot true (search rules) (search rules)))),
     )
 
 pub loop-low-preserved-in_default : goal.loop-low-preserved-in_default
@@ -24,7 +24,7 @@ loop-low-preserved-in_default g c =
     let there : slice_get slots middle ≡ Some c.in-Some.slot = search rules in (
       omega arith,
       omega arith,
-      (λ test told parted. failed test slots parted low high middle c.in-Some.slot (c.loop-low.invariant.2 test told parted) there (sym (told c.in-Some.slot false (search rules) (search rules)))),
+      (λ test known parted. failed test slots parted low high middle c.in-Some.slot (c.loop-low.invariant.2 test known parted) there (sym (known c.in-Some.slot false (search rules) (search rules)))),
     )
 
 pub loop-low-preserved : goal.loop-low-preserved
@@ -37,4 +37,4 @@ loop-low-preserved g c =
 pub returns-clause-value : goal.returns-clause-value
 returns-clause-value g c =
     let same : c.loop-low.high ≡ c.loop-low.low = search rules in
-    λ test told parted. met test c.args.self.now.items parted c.loop-low.low (search rules) (subst (Narrowed test c.args.self.now.items c.loop-low.low) same (c.loop-low.invariant.2 test told parted))
+    λ test known parted. met test c.args.self.now.items parted c.loop-low.low (search rules) (subst (Narrowed test c.args.self.now.items c.loop-low.low) same (c.loop-low.invariant.2 test known parted))

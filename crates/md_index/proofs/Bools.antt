@@ -1,0 +1,36 @@
+-- Tests.
+use Rattle.std.proofs.Common.{◌≡◌, Bool, true, false, ◌&&◌, ◌||◌, refl, sym}
+
+pub one_bool : (a b : Bool) → (a ≡ true → b ≡ true) → (b ≡ true → a ≡ true) → a ≡ b
+one_bool true true f g = refl
+one_bool true false f g = sym (f refl)
+one_bool false true f g = g refl
+one_bool false false f g = refl
+
+pub and_first : (a b : Bool) → a && b ≡ true → a ≡ true
+and_first true b h = refl
+and_first false b h = h
+
+pub and_second : (a b : Bool) → a && b ≡ true → b ≡ true
+and_second true b h = h
+and_second false b h = cc
+
+pub or_second : (a b : Bool) → b ≡ true → a || b ≡ true
+or_second true b h = refl
+or_second false b h = h
+
+pub or_first : (a b : Bool) → a ≡ true → a || b ≡ true
+or_first true b h = refl
+or_first false b h = cc
+
+pub or_else : (a b : Bool) → a || b ≡ true → a ≡ false → b ≡ true
+or_else true b h e = cc
+or_else false b h e = h
+
+pub and_true : (a : Bool) → a && true ≡ a
+and_true true = refl
+and_true false = refl
+
+pub and_false : (a : Bool) → a && false ≡ false
+and_false true = refl
+and_false false = refl

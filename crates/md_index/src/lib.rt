@@ -1,0 +1,16 @@
+//! Ordered indexes of attributes: which places have a value between two edges.
+#![tactic(auto)]
+
+mod between;
+mod facts;
+mod flags;
+mod held;
+mod index;
+mod named;
+mod names;
+mod range;
+mod span;
+mod values;
+
+pub use between::{Edge, Mark, Probe};
+pub use index::{Index, IndexReady};
