@@ -1,12 +1,14 @@
 -- What a pass has made, an act at a time.
-use Rattle.std.proofs.Common.{◌≡◌, ℕ, zero, suc, ◌+◌, ◌<◌, ◌≤◌, List, [], ◌∷◌, ◌++◌, length, refl, sym, ◌∙◌, ap, subst, arith, append_assoc, append-nil}
-use Rattle.std.specs.Prelude.{slice_get, nat_lt, Option, None, Some, IfSome}
+use Rattle.std.proofs.Common.{◌≡◌, ℕ, zero, suc, ◌+◌, ◌<◌, ◌≤◌, List, [], ◌∷◌, ◌++◌, length, refl, sym, ◌∙◌, ap, subst, arith, append_assoc, append-nil, length-append}
+use Rattle.std.specs.Prelude.{take, slice_get, nat_lt, Option, None, Some, IfSome}
 use Rattle.std.specs.List.{AllByRecursion}
+use Rattle.md_value.specs.Values.{PathBytes}
 use Rattle.md_world.specs.declared.Change.{Change}
 use Rattle.md_machine.specs.declared.Event.{Event}
+use Rattle.md_machine.specs.declared.Event.TheVariants as event
 use Rattle.md_turn.specs.declared.journal.JournalEntry.{JournalEntry}
 use Rattle.md_turn.specs.Passes.{Known}
-use Rattle.md_merge.specs.Jobs.{Job, end_of}
+use Rattle.md_merge.specs.Jobs.{Job, draws, end_of}
 use Rattle.md_merge.specs.Journals.{events_in}
 use Rattle.md_merge.specs.Joining.{end_after, ends_of_numbers}
 use Rattle.md_pool.specs.Claims.{within}
@@ -33,8 +35,8 @@ made_more a b c before more h k =
       gained = h.gained ++ k.gained;
       own = k.own ∙ ap (λ (own : List JournalEntry). own ++ k.gained) h.own ∙ append_assoc a.own h.gained k.gained;
       events_are = events_both h.gained k.gained ∙ ap (λ (events : List Event). events ++ events_in k.gained) h.events_are ∙ ap (λ (events : List Event). before ++ events) k.events_are;
-      later = later_both (length a.seen) (length b.seen) h.gained k.gained h.seen h.later k.later;
-      seen = (let first = h.seen in let next = k.seen in omega arith);
+      later = (let first = h.seen in later_both (length a.seen) (length b.seen) h.gained k.gained (omega arith) h.later k.later);
+      seen = (let first = h.seen in let next = k.seen in let both = length-append h.gained k.gained in omega arith);
     }
 
 -- the worker's pass after the end of a job more
@@ -82,3 +84,29 @@ job_there (job ∷ jobs) (suc k) below = job_there jobs k (omega arith)
 -- the change that is told of a job is its own
 pub change_there : (jobs : List Job) (k : ℕ) (job : Job) (change : Option Change) → slice_get jobs k ≡ Some job → IfSome (slice_get jobs k) (λ (j : Job). change ≡ j.change) → change ≡ job.change
 change_there jobs k job change there h = subst (λ (o : Option Job). IfSome o (λ (j : Job). change ≡ j.change)) there h
+
+-- the path that is received of a job is its own
+pub path_there : (jobs : List Job) (k : ℕ) (job : Job) (path : PathBytes) → slice_get jobs k ≡ Some job → IfSome (slice_get jobs k) (λ (j : Job). path ≡ j.path) → path ≡ job.path
+path_there jobs k job path there h = subst (λ (o : Option Job). IfSome o (λ (j : Job). path ≡ j.path)) there h
+
+-- the draws of a job more
+draws_next : (jobs : List Job) (k : ℕ) (job : Job) → slice_get jobs k ≡ Some job → draws (take (suc k) jobs) ≡ draws (take k jobs) ++ event.Draw job.path ∷ []
+draws_next [] k job there = absurd (nowhere k there)
+  where
+    nowhere : (k : ℕ) → slice_get [] k ≡ Some job → ⊥
+    nowhere k h = cc
+draws_next (j ∷ jobs) zero job there = ap (λ (i : Job). event.Draw i.path ∷ []) (some_inj j job there)
+draws_next (j ∷ jobs) (suc k) job there = ap (λ (events : List Event). event.Draw j.path ∷ events) (draws_next jobs k job there)
+
+draws_more : (jobs : List Job) (k : ℕ) (job : Job) → slice_get jobs k ≡ Some job → draws (take (k + 1) jobs) ≡ draws (take k jobs) ++ event.Draw job.path ∷ []
+draws_more jobs k job there =
+    let next : k + 1 ≡ suc k = omega arith in
+    ap (λ n. draws (take n jobs)) next ∙ draws_next jobs k job there
+
+-- a pass that drew a ticket more
+pub draw_made : (jobs : List Job) (a b c : Known) (k : ℕ) (job : Job) (path : PathBytes) → slice_get jobs k ≡ Some job → path ≡ job.path
+    → HasMade a b (draws (take k jobs)) → HasMade b c (event.Draw path ∷ []) → HasMade a c (draws (take (k + 1) jobs))
+draw_made jobs a b c k job path there is h next =
+    let all : draws (take k jobs) ++ event.Draw path ∷ [] ≡ draws (take (k + 1) jobs) =
+    ap (λ (p : PathBytes). draws (take k jobs) ++ event.Draw p ∷ []) is ∙ sym (draws_more jobs k job there) in
+    subst (HasMade a c) all (made_more a b c (draws (take k jobs)) (event.Draw path ∷ []) h next)

@@ -1,7 +1,6 @@
 // Actors.
-ghost use Rattle.std.specs.Prelude.{◌≡◌, ◌<◌, ◌^◌, length, false};
-ghost use Rattle.md_turn.specs.Passes.{made_by};
-ghost use Rattle.md_workers.specs.Actors.{HasRoom, HasDone, IsOfClaims, IsSamePass, KeepsSeat};
+ghost use Rattle.std.specs.Prelude.{◌≡◌, ◌<◌, ◌^◌, length};
+ghost use Rattle.md_workers.specs.Actors.{MayRun, Ends};
 
 use crate::client::serve;
 use crate::jobs::Jobs;
@@ -14,11 +13,17 @@ use md_value::Items;
 use std::alloc::Global;
 use std::sync::Wait;
 
+/// A client's number, and the events that it has answered, in order.
+#[derive(Drop)]
+pub struct Client {
+    pub id: u8,
+    pub events: Items<Event>,
+}
+
 /// What an actor is for.
 #[derive(Drop)]
 pub enum Role {
-    /// It has these events answered.
-    Client(Items<Event>),
+    Client(Client),
     /// It claims jobs with this seat.
     Worker(ClaimSeat),
 }
@@ -32,7 +37,7 @@ pub struct Actor {
     pub role: Role,
 }
 
-/// What an actor hands back.
+/// What an actor hands back: the pass and the seat that it was given, with all that they have done.
 #[derive(Drop)]
 pub struct Ended {
     pub pass: Pass,
@@ -52,12 +57,10 @@ pub fn run_actor<R: Wait, C: Core, J: Jobs, G: Gate>(
     gate: &G,
     actor: Actor,
 ) -> Ended
-    requires turn { actor.pass.id ≡ turn.now.id }
-    requires claims { IsOfClaims claims.now actor.role × (claims.now.numbers ≡ length (J.jobs jobs.now)) }
+    requires claims { claims.now.numbers ≡ length (J.jobs jobs.now) }
     requires few { length (J.jobs jobs.now) < 2 ^ 32 }
-    requires room { HasRoom (J.jobs jobs.now) actor.pass (made_by actor.pass) actor.role }
-    ensures same { IsSamePass actor.pass result.pass × KeepsSeat actor.role result.seat }
-    ensures done { result.refused ≡ false → HasDone (J.jobs jobs.now) actor.role actor.pass result.pass result.seat }
+    requires actor { MayRun turn.now.id claims.now (J.jobs jobs.now) actor }
+    ensures { Ends (J.jobs jobs.now) actor result }
 {
     let Actor {
         number,
@@ -65,8 +68,8 @@ pub fn run_actor<R: Wait, C: Core, J: Jobs, G: Gate>(
         role,
     } = actor;
     match role {
-        Role::Client(events) => {
-            let outcome = serve(rt, turn, gate, number, &mut pass, events);
+        Role::Client(client) => {
+            let outcome = serve(rt, turn, gate, number, &mut pass, client.events);
             Ended {
                 pass,
                 seat: None,
