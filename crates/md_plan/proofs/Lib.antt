@@ -1,0 +1,3 @@
+pub mod Edges_met
+pub mod Trees
+pub mod Sets
