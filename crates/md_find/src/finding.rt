@@ -11,6 +11,7 @@ ghost use Rattle.md_find.specs.Folders.{most_files};
 ghost use Rattle.md_find.specs.Notes.{noted_all};
 ghost use Rattle.md_find.specs.Finds.{found_text, FindsBy, FindsAmong, FindsBelow, Finds, HasCause, EndsBy, form_out, form_reported};
 
+use crate::batches::first_batch;
 use crate::printing::found_text;
 use crate::reading::{list_files, read_files};
 use crate::testing::{Seen, SeenFile, seen_files};
@@ -26,10 +27,6 @@ use std::thread::Threads;
 
 /// The most files of a folder that is searched.
 pub const MOST_FILES: usize = 1_000_000;
-
-/// The most files that are read before they are imported and tested. The bytes of no more files are held at once, and
-/// of a file that is tested only its path.
-const BATCH: usize = 1_000;
 
 /// What is searched for, and where.
 #[derive(Drop)]
@@ -121,11 +118,14 @@ fn find_by<R: Threads + Sync, T: Tree>(
 {
     let mut report = FileReport::new(alloc);
     let mut hits = Vec::new(alloc);
-    for batch in entries.chunks(BATCH) {
+    let mut rest = entries;
+    while !rest.is_empty() {
+        let (batch, later) = first_batch(rest);
         let files = read_files(alloc, tree, batch)?;
         let files = seen_files(rt, alloc, filter, files)?;
         note(alloc, &mut report, &files)?;
         keep(&mut hits, files)?;
+        rest = later;
     }
     let text = found_text(alloc, output, hits.as_slice())?;
     report.push_out(text.as_str())?;
@@ -205,7 +205,7 @@ fn find_below<R: Threads + Sync, T: Tree>(
 /// Asks a tree for the files below the search's folder, imports them, and makes the text of the paths of those that
 /// satisfy the expression, ascending by bytes. The forms of time are resolved first; where one is out of range, the tree is not
 /// asked. The files are read by this thread in path order and imported and tested in as many threads as there are
-/// processors, at most 1,000 at a time.
+/// processors, at most 1,000 at a time, and no more than 32 MiB of them but where it is one.
 ///
 /// A file with a fault of its content has a line on err and is not among the files that are searched; so it is with one that
 /// could not be read. A file that is absent when it is read is passed over. A folder that is absent or could not be listed

@@ -6,6 +6,7 @@
 //! its line on err, where it gives no attributes. No server is made: what is found is a filter of the files' rows.
 #![tactic(auto)]
 
+mod batches;
 mod finding;
 pub mod laws;
 mod printing;

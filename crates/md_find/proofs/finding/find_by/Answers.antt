@@ -1,7 +1,7 @@
 use Rattle.std.proofs.Common.{◌≡◌, List, [], ◌++◌, map, refl, sym, ◌∙◌, ap, subst, rules, string_bytes, All, append_assoc, append-nil, arith}
+use Rattle.std.proofs.lemmas.Bool.{eqb-true}
 use Rattle.std.proofs.lemmas.List.{nil_from_length}
 use Rattle.std.specs.List.{filter_map}
-use Rattle.std.specs.Slice.Iter.{chunks_rest}
 use Rattle.md_value.specs.Values.{PathBytes, IsMoment}
 use Rattle.md_source.specs.declared.tree.Entry.{Entry}
 use Rattle.md_files.specs.Folders.{AreRead}
@@ -14,21 +14,21 @@ use Rattle.md_find.proofs.Among.{found_by}
 use Rattle.md_find.proofs.Gathered.{gathers_more}
 use Rattle.md_find.proofs.finding.find_by.Goals as goal
 
-pub loop-batch-init : goal.loop-batch-init
-loop-batch-init g c = ([], search rules, record { answers = []; asked = refl; noted = c.new-report.ensures; found = search rules }, refl, search rules, search rules, tt)
+pub loop-rest-init : goal.loop-rest-init
+loop-rest-init g c = ([], search rules, record { answers = []; asked = refl; noted = c.new-report.ensures; found = search rules }, refl, search rules)
 
 pub seen_files-requires-after_bounds : goal.seen_files-requires-after_bounds
 seen_files-requires-after_bounds g c = λ κs bounds.
-    let so = c.loop-batch.invariant in
+    let so = c.loop-rest.invariant in
     let files = c.in_ok-files.files.items in
-    let rest = chunks_rest c.next.new.self in
+    let rest = c.first_batch.result.1.now in
     let whole : so.0 ++ (entries_of files ++ rest) ≡ c.args.entries.now =
-    ap (λ (batch : List Entry). so.0 ++ (batch ++ rest)) c.in_ok-files.ensures.entries ∙ ap (λ (left : List Entry). so.0 ++ left) (sym c.in-Some.ensures.steps.1.0) ∙ so.1 in
+    ap (λ (batch : List Entry). so.0 ++ (batch ++ rest)) c.in_ok-files.ensures.entries ∙ ap (λ (left : List Entry). so.0 ++ left) c.first_batch.ensures.whole ∙ so.1 in
     moments_read so.0 files rest (subst (All (λ (entry : Entry). IsMoment entry.changed)) (sym whole) c.requires)
 
-pub loop-batch-preserved : goal.loop-batch-preserved
-loop-batch-preserved g c =
-    let l = c.loop-batch in
+pub loop-rest-preserved : goal.loop-rest-preserved
+loop-rest-preserved g c =
+    let l = c.loop-rest in
     let so = l.invariant in
     let known = g.T.Tree.content c.args.tree.now in
     let was = g.T.Tree.faults c.args.tree.now in
@@ -36,10 +36,9 @@ loop-batch-preserved g c =
     let now = g.T.Tree.faults c.read_files.new.tree in
     let condition = c.args.filter.now in
     let files = c.in_ok-files.files.items in
-    let batch = c.in-Some.batch.now in
-    let rest = chunks_rest c.next.new.self in
+    let batch = c.first_batch.result.0.now in
+    let rest = c.first_batch.result.1.now in
     let same : entries_of files ≡ batch = c.in_ok-files.ensures.entries in
-    let step : chunks_rest l.batch-iterator ≡ batch ++ rest = c.in-Some.ensures.steps.1.0 in
     let made : c.in_ok-files-2.files.items ≡ map (seen_file condition) files = c.in_ok-files-2.ensures in
     let read : AreRead known between now (entries_of files) (answers_of files) = rw (same, sym so.3) c.in_ok-files.ensures.read in
     let noted : c.note.new.report ≡ noted_all l.report (filter_map reason_of (map (seen_file condition) files)) =
@@ -47,22 +46,20 @@ loop-batch-preserved g c =
     let kept : c.keep.new.hits.items ≡ l.hits.items ++ filter_map hit_of (map (seen_file condition) files) =
     c.in_ok-keep.ensures ∙ ap (λ (made : List SeenFile). l.hits.items ++ filter_map hit_of made) made in (
       so.0 ++ entries_of files,
-      append_assoc so.0 (entries_of files) rest ∙ ap (λ (b : List Entry). so.0 ++ (b ++ rest)) same ∙ ap (λ (left : List Entry). so.0 ++ left) (sym step) ∙ so.1,
+      append_assoc so.0 (entries_of files) rest ∙ ap (λ (b : List Entry). so.0 ++ (b ++ rest)) same ∙ ap (λ (left : List Entry). so.0 ++ left) c.first_batch.ensures.whole ∙ so.1,
       gathers_more known was between now condition so.0 l.report l.hits.items so.2 files c.note.new.report c.keep.new.hits.items read noted kept,
       c.in_ok-files.ensures.content ∙ so.3,
       omega (arith, so.4, c.in_ok-files.ensures.later),
-      search rules,
-      tt,
     )
 
 pub returns-clause-found : goal.returns-clause-found
 returns-clause-found g c =
-    let so = c.loop-batch.invariant in
-    let none = nil_from_length (chunks_rest c.loop-batch.batch-iterator) c.in-None.ensures.steps.1.0 in
+    let so = c.loop-rest.invariant in
+    let none = nil_from_length c.loop-rest.rest.now (eqb-true _ 0 (sym c.is_empty.ensures ∙ c.loop-rest-test.false)) in
     let all : so.0 ≡ c.args.entries.now = sym (append-nil so.0) ∙ ap (λ (left : List Entry). so.0 ++ left) (sym none) ∙ so.1 in
-    let text : string_bytes c.in_ok-text.text ≡ found_text c.args.output c.loop-batch.hits.items = c.in_ok-text.ensures ∙ ap (λ (paths : List PathBytes). found_text c.args.output paths) c.as_slice.ensures.value in
+    let text : string_bytes c.in_ok-text.text ≡ found_text c.args.output c.loop-rest.hits.items = c.in_ok-text.ensures ∙ ap (λ (paths : List PathBytes). found_text c.args.output paths) c.as_slice.ensures.value in
     let known = g.T.Tree.content c.args.tree.now in
     let was = g.T.Tree.faults c.args.tree.now in
-    let now = g.T.Tree.faults c.loop-batch.tree in
-    found_by known was now c.args.output c.args.entries.now c.args.filter.now c.loop-batch.report c.push_out.new.self c.loop-batch.hits.items (rw (sym all) so.2) (string_bytes c.in_ok-text.text) text
-    (c.in_ok-push_out.ensures ∙ ap (λ t. record c.loop-batch.report { out = c.loop-batch.report.out ++ t }) c.as_str.ensures.value)
+    let now = g.T.Tree.faults c.loop-rest.tree in
+    found_by known was now c.args.output c.args.entries.now c.args.filter.now c.loop-rest.report c.push_out.new.self c.loop-rest.hits.items (rw (sym all) so.2) (string_bytes c.in_ok-text.text) text
+    (c.in_ok-push_out.ensures ∙ ap (λ t. record c.loop-rest.report { out = c.loop-rest.report.out ++ t }) c.as_str.ensures.value)
