@@ -1,6 +1,7 @@
 #!/usr/bin/env python3
 """Writes the table of drawn scripts, by the grammar of docs/FORMATS.md, which is written here anew."""
 
+import pathlib
 import random
 import re
 
@@ -8,6 +9,8 @@ import expressions
 import rows
 
 SCRIPT = "bench/oracles/scripts.py"
+
+FIRST_RUN = pathlib.Path(__file__).resolve().parents[2] / "examples/first-run.txt"
 
 ESCAPES = {"s": " ", "t": "\t", "n": "\n", "r": "\r", "\\": "\\"}
 
@@ -168,6 +171,13 @@ def spoiled(draw, script):
     return script[:place] + draw.choice([b"", b" ", b"\\", b"\n", b"\r", b"\xff", b"x", b"0"]) + script[place + draw.randrange(2) :]
 
 
+def cut_rows():
+    """The first run's script, cut off after each of its bytes."""
+    script = FIRST_RUN.read_bytes()
+    for length in range(len(script) + 1):
+        yield script[:length], answer(script[:length])
+
+
 def script_rows():
     draw = random.Random(14)
     for _ in range(900):
@@ -183,7 +193,8 @@ def tables():
     yield rows.table("drawn_scripts", SCRIPT, "script, its lines or why it is refused", [
         "The wanted values follow from the grammar of docs/FORMATS.md, as this script and bench/oracles/expressions.py have it.",
         "An answer has a line for each line that says something: its number, its moment in milliseconds and what it says.",
-    ], script_rows())
+        "The last rows are the script of examples/first-run.txt, cut off after each of its bytes.",
+    ], [*script_rows(), *cut_rows()])
 
 
 if __name__ == "__main__":

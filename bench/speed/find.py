@@ -1,10 +1,11 @@
 #!/usr/bin/env python3
 """Times `mdfind` on folders that this makes.
 
-    speed.py            10,000 files: 55 % texts of 50 to 800 words, 20 % JSON, 15 % CSV, 10 % others; `mdfind budget`
+    find.py             10,000 files: 55 % texts of 50 to 800 words, 20 % JSON, 15 % CSV, 10 % others; `mdfind budget`
                         beside `cat` of all files, with the greatest memory beside the bytes of the files, and on one
                         processor beside all
-    speed.py names      100,000 empty files; `mdfind -name plan` beside `find -iname '*plan*'`
+    find.py names       100,000 empty files; `mdfind -name plan` beside `find -iname '*plan*'`
+    find.py memory      100 texts of 16 MiB, and 100,000 texts of 1 KiB; the greatest memory of `mdfind budget`
 
 Each figure is the least of three runs of a whole process; the program is built before.
 """
@@ -97,6 +98,21 @@ def search_names(program, folder):
     print(f"hits {ours[2].count(10)} and {find[2].count(10)}")
 
 
+def fill_alike(folder, count, text):
+    for number in range(count):
+        place = folder / f"d{number % 1000}"
+        place.mkdir(parents=True, exist_ok=True)
+        (place / f"f{number}.txt").write_text(text)
+
+
+def search_sizes(program, folder):
+    for name, count, size in [("large", 100, 16 << 20), ("small", 100_000, 1 << 10)]:
+        place = folder / name
+        fill_alike(place, count, "red blue plan note\n" * (size // 19))
+        seconds, memory, _ = least([program, "mdfind", "budget"], place)
+        print(f"mdfind on {count} files of {size} bytes: {seconds:.2f} s, {memory / 1000:.0f} MB")
+
+
 def main():
     subprocess.run([TOP / "mdserve", "live"], input=b"", check=True)
     program = TOP / "crates" / "mdserve" / "out" / "mdserve"
@@ -104,6 +120,8 @@ def main():
         folder = pathlib.Path(work)
         if sys.argv[1:] == ["names"]:
             search_names(program, folder)
+        elif sys.argv[1:] == ["memory"]:
+            search_sizes(program, folder)
         else:
             search(program, folder)
 

@@ -52,16 +52,15 @@ fn time_key(rt: &HostRuntime, name: &str, part: &str, mebibytes: usize, fold: bo
 fn time_match(rt: &HostRuntime, name: &str, words: &str, part: &str, bytes: usize) -> anyhow::Result<()> {
     let alloc = rt.alloc();
     let text = repeated(alloc, part, bytes)?;
-    let key = Key::of(alloc, text.as_str(), true, true)?;
     let words = pieces(alloc, words)?;
     if words.is_empty() {
         return Ok(());
     }
     let pattern = Pattern::of(alloc, &words, true, true)?;
     let start = Instant::now(rt)?;
-    let found = pattern.matches(&key);
+    let found = pattern.matches(alloc, text.as_str(), true, true)?;
     let spent = start.elapsed(rt)?.as_micros();
-    println!(rt; "{name}: {found}, {spent} us")?;
+    println!(rt; "{name}, with the key of {} bytes: {found}, {spent} us", text.len())?;
     Ok(())
 }
 
@@ -74,7 +73,8 @@ fn main(rt: HostRuntime) -> anyhow::Result<()> {
             time_key(&rt, "of mixed text", mixed, 16, fold, marks)?;
         }
     }
-    time_match(&rt, "one word in 16 MiB without it", "*zebra*", ascii, 16 * MEBIBYTE)?;
+    time_match(&rt, "one word in ASCII without it", "*zebra*", ascii, 64 * MEBIBYTE)?;
+    time_match(&rt, "one word in mixed text without it", "*zebra*", mixed, 16 * MEBIBYTE)?;
     time_match(&rt, "four pieces in 16 MiB, the last not in it", "the quick*brown*lazy*zebra*", ascii, 16 * MEBIBYTE)?;
     let letters = "a*a*a*a*a*a*a*a*a*a*a*a*a*a*a*a*a*a*a*a*a*a*a*a*a*";
     let alloc = rt.alloc();
@@ -86,6 +86,11 @@ fn main(rt: HostRuntime) -> anyhow::Result<()> {
     time_match(&rt, "100 letters and another last in a million of that letter", none.as_str(), "a", 1_000_000)?;
     time_match(&rt, "100 letters and another within in a million of that letter", inner.as_str(), "a", 1_000_000)?;
     time_match(&rt, "aaaaaaaaab in a million of a", "*aaaaaaaaab*", "a", 1_000_000)?;
+    let long = repeated(alloc, "a", 10_000)?;
+    let long = format!(in alloc; "*{long}b*")?;
+    for _ in 0..2 {
+        time_match(&rt, "10,000 of a and b in that letter", long.as_str(), "a", 16 * MEBIBYTE)?;
+    }
     Ok(())
 }
 """

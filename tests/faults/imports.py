@@ -1,19 +1,20 @@
-#!/usr/bin/env python3
 """Refuses memory to imports, one call after the other.
 
 Builds a program over imp_kind in a temporary folder, and runs it on files of each kind, with faults and without, once for
 each call of `malloc` or `realloc` that it makes; this call is refused. Where the call is an import's, this import has to
 answer want of memory, and all other lines have to be as they were; where it is the program's own, the lines before it have
-to be. Needs `rt` and `cc` in the path, and about ten minutes."""
+to be.
+"""
 
 import pathlib
-import subprocess
 import sys
 import tempfile
 
-sys.path.append(str(pathlib.Path(__file__).resolve().parents[2] / "bench/speed"))
-import programs
 import refusals
+from examples import TOP
+
+sys.path.append(str(TOP / "bench/speed"))
+import programs
 
 USED = ["imp_kind", "md_source", "md_value"]
 
@@ -110,7 +111,16 @@ def one_memory(lines, whole):
     return len(other) == 1 and other[0][0] == other[0][1].split(b":")[0] + b": memory"
 
 
-def main():
+def is_right(ended, whole):
+    """Whether nothing changed, one import wanted memory, or the program ended early."""
+    lines = ended.out.splitlines()
+    if ended.status == 0 and (lines == whole or one_memory(lines, whole)):
+        return True
+    return ended.status in (0, 1) and lines == whole[:len(lines)]
+
+
+def results():
+    """A fault or None for each call that is refused."""
     with tempfile.TemporaryDirectory() as folder:
         top = pathlib.Path(folder)
         program = programs.build(top, USED, PROGRAM)
@@ -118,25 +128,12 @@ def main():
         files.mkdir()
         for name, content in FILES.items():
             (files / name).write_bytes(content)
-        refused = refusals.Refused(top, [program], cwd=files)
-        status, printed, _ = refused.run(0)
-        whole = printed.splitlines()
-        assert status == 0 and len(whole) == len(FILES), printed
-        counts = {"want of memory": 0, "early end": 0, "no change": 0}
-        calls = refused.calls()
-        for number in range(1, calls + 1):
-            status, printed, _ = refused.run(number)
-            lines = printed.splitlines()
-            if status == 0 and lines == whole:
-                counts["no change"] += 1
-            elif status == 0 and one_memory(lines, whole):
-                counts["want of memory"] += 1
-            elif status in (0, 1) and lines == whole[:len(lines)]:
-                counts["early end"] += 1
-            else:
-                sys.exit(f"call {number} refused: status {status}, {printed}")
-        print(f"{calls} calls refused in turn: " + ", ".join(f"{count} {name}" for name, count in counts.items()))
-
-
-if __name__ == "__main__":
-    main()
+        wanting = 0
+        with refusals.Shim() as shim:
+            first, calls = shim.counted([program], cwd=files)
+            whole = first.out.splitlines()
+            yield None if first.status == 0 and len(whole) == len(FILES) else f"imports: {first}"
+            for number, ended in shim.each([program], "memory", calls.memory, cwd=files):
+                wanting += one_memory(ended.out.splitlines(), whole)
+                yield None if is_right(ended, whole) else f"imports, call {number} refused: {ended}"
+        yield None if wanting else "imports: no import wanted memory"

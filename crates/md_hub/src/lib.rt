@@ -9,6 +9,7 @@
 //! pending difference has no more items than there were commits since its base.
 #![tactic(auto)]
 
+mod as_core;
 mod desk;
 mod edits;
 mod held;

@@ -34,3 +34,10 @@ and_true false = refl
 pub and_false : (a : Bool) → a && false ≡ false
 and_false true = refl
 and_false false = refl
+
+pub both_true : (a b : Bool) → a ≡ true → b ≡ true → a && b ≡ true
+both_true a b h k = rw (h, k) refl
+
+pub or_nothing : (b : Bool) → b || false ≡ b
+or_nothing true = refl
+or_nothing false = refl

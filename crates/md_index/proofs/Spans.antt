@@ -3,9 +3,8 @@ use Rattle.std.proofs.Common.{◌≡◌, ℕ, Bool, true, false, not, ◌&&◌, 
 use Rattle.std.specs.Prelude.{ℤ, pos, ◌+ℤ◌, ◌≤ℤ◌, ◌<ℤ◌, ◌^◌, Option, None, Some, filter}
 use Rattle.std.specs.declared.cmp.Ordering.{Ordering}
 use Rattle.std.specs.declared.cmp.Ordering.TheVariants.{Less, Equal, Greater}
-use Rattle.std.specs.Ordering.{nat_cmp, int_cmp, is_lt, is_gt, is_le, is_ge, is_eq, ordering_reverse, MatchOrdering}
+use Rattle.std.specs.Ordering.{int_cmp, is_lt, is_gt, is_le, is_ge, is_eq, ordering_reverse, MatchOrdering}
 use Rattle.std.specs.Option.{option_map_or}
-use Rattle.std.specs.BTreeMap.{BTreeMap, get}
 use Rattle.std.specs.BTreeMap.Range.{is_from_start, is_past_end}
 use Rattle.std.specs.List.{list_any}
 use Rattle.std.proofs.lemmas.Cmp.{int_ranked}
@@ -22,9 +21,10 @@ use Rattle.md_index.specs.declared.between.Probe.{Probe}
 use Rattle.md_index.specs.Between.{parts, mark_of, mark_cmp, is_above, is_below, is_between}
 use Rattle.md_index.specs.Order.{value_total}
 use Rattle.md_index.specs.Spans.{IsFloor, IsFloorOf, bound_at, is_forward, is_within, within}
-use Rattle.md_index.specs.States.{is_on}
+use Rattle.md_index.specs.States.{is_on, place_state}
+use Rattle.md_index.specs.declared.places.Places.{Places}
 use Rattle.md_index.specs.Indexed.{counted_between}
-use Rattle.md_index.proofs.Bools.{and_first, and_second, and_true, and_false, or_first, or_second}
+use Rattle.md_index.proofs.Bools.{and_first, and_second, and_true, and_false, or_first, or_second, or_nothing}
 use Rattle.md_index.proofs.Exact.{exact_value}
 
 -- two numbers by their order
@@ -223,15 +223,15 @@ module _ {X : Type 0} (f t u : X → Bool) (cover : (x : X) → f x ≡ true →
       ∙ ap (λ b. f x || b) (any_parts xs)
 
 -- the values between the edges are among the flags and those between the values at the edges
-pub parted : (probe : Probe) (low high : Option Value) → IsFloorOf probe.low low → IsFloorOf probe.high high → (es : List (Value × BTreeMap ℕ Bool)) (p : ℕ)
+pub parted : (probe : Probe) (low high : Option Value) → IsFloorOf probe.low low → IsFloorOf probe.high high → (es : List (Value × Places)) (p : ℕ)
     → counted_between probe (within (Some (value.Flag false)) (Some (value.Flag true)) es) p || counted_between probe (within low high es) p ≡ counted_between probe es p
 parted probe low high f g es p =
-    any_parts (λ (e : Value × BTreeMap ℕ Bool). is_between probe e.0 && is_on (get nat_cmp e.1 p))
+    any_parts (λ (e : Value × Places). is_between probe e.0 && is_on (place_state e.1 p))
     (λ e. is_within (Some (value.Flag false)) (Some (value.Flag true)) e.0) (λ e. is_within low high e.0)
     (λ e h.
     let first = is_within (Some (value.Flag false)) (Some (value.Flag true)) e.0 in
     let second = is_within low high e.0 in
-    let between = and_first (is_between probe e.0) (is_on (get nat_cmp e.1 p)) h in
+    let between = and_first (is_between probe e.0) (is_on (place_state e.1 p)) h in
     by_test (is_flag e.0)
     (λ is. or_first first second (flag_within e.0 is))
     (λ not. or_second first second (covers probe low high f g e.0 not between)))
@@ -279,13 +279,9 @@ backward (Some a) None h v = absurd (none h)
     none n = cc
 backward (Some a) (Some b) h v = before_back a b v (value_cmp a v) (value_cmp b v) refl refl h
 
-pub none_backward : (probe : Probe) (low high : Option Value) → is_forward low high ≡ false → (es : List (Value × BTreeMap ℕ Bool)) (p : ℕ) → counted_between probe (within low high es) p ≡ false
+pub none_backward : (probe : Probe) (low high : Option Value) → is_forward low high ≡ false → (es : List (Value × Places)) (p : ℕ) → counted_between probe (within low high es) p ≡ false
 none_backward probe low high h [] p = refl
 none_backward probe low high h (e ∷ es) p = rw (backward low high h e.0) (none_backward probe low high h es p)
 
-or_false : (b : Bool) → b || false ≡ b
-or_false true = refl
-or_false false = refl
-
-pub stays_backward : (probe : Probe) (low high : Option Value) → is_forward low high ≡ false → (es : List (Value × BTreeMap ℕ Bool)) (p : ℕ) (b : Bool) → b ≡ b || counted_between probe (within low high es) p
-stays_backward probe low high h es p b = sym (ap (λ c. b || c) (none_backward probe low high h es p) ∙ or_false b)
+pub stays_backward : (probe : Probe) (low high : Option Value) → is_forward low high ≡ false → (es : List (Value × Places)) (p : ℕ) (b : Bool) → b ≡ b || counted_between probe (within low high es) p
+stays_backward probe low high h es p b = sym (ap (λ c. b || c) (none_backward probe low high h es p) ∙ or_nothing b)

@@ -1,7 +1,6 @@
 -- The values that may be between the edges of a probe, as those between two values.
-use Rattle.std.specs.Prelude.{◌≡◌, ℕ, pos, ◌+ℤ◌, ◌≤ℤ◌, ◌<ℤ◌, ◌^◌, Bool, true, List, filter, Option, None, Some}
+use Rattle.std.specs.Prelude.{◌≡◌, pos, ◌+ℤ◌, ◌≤ℤ◌, ◌<ℤ◌, ◌^◌, Bool, true, List, filter, Option, None, Some}
 use Rattle.std.specs.Ordering.{is_le}
-use Rattle.std.specs.BTreeMap.{BTreeMap}
 use Rattle.std.specs.BTreeMap.Range.{range_contains}
 use Rattle.std.specs.declared.ops.Bound.{Bound}
 use Rattle.std.specs.declared.ops.Bound.TheVariants.{Included, Unbounded}
@@ -12,6 +11,7 @@ use Rattle.md_index.specs.declared.between.Mark.{Mark}
 use Rattle.md_index.specs.declared.between.Mark.TheVariants as mark
 use Rattle.md_index.specs.declared.between.Edge.{Edge}
 use Rattle.md_index.specs.declared.between.Edge.TheVariants as edge
+use Rattle.md_index.specs.declared.places.Places.{Places}
 use Rattle.md_index.specs.Between.{parts}
 
 -- the value is the greatest number or moment that is not above the mark; none says nothing
@@ -42,5 +42,5 @@ abbrev pub is_within : Option Value → Option Value → Value → Bool
 is_within low high v = range_contains value_cmp (bound_at low) (bound_at high) v
 
 -- the values between two with their places
-abbrev pub within : Option Value → Option Value → List (Value × BTreeMap ℕ Bool) → List (Value × BTreeMap ℕ Bool)
+abbrev pub within : Option Value → Option Value → List (Value × Places) → List (Value × Places)
 within low high entries = filter (λ entry. is_within low high entry.0) entries

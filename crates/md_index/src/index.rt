@@ -1,21 +1,21 @@
 // The index: for each attribute and value the places that have it.
-ghost use Rattle.std.specs.Prelude.{◌≡◌, ℕ, List, Option, None, ◌&&◌, true, false, IfOk, OnOk, is_some};
-ghost use Rattle.std.specs.Ordering.{nat_cmp, is_eq};
+ghost use Rattle.std.specs.Prelude.{◌≡◌, ◌==◌, ◌<◌, ℕ, List, [], length, Option, None, ◌&&◌, true, false, IfOk, OnOk, is_some};
 ghost use Rattle.std.specs.Option.{option_map};
 ghost use Rattle.md_world.specs.declared.Row.{Row};
 ghost use Rattle.md_value.specs.Attrs.{text_content};
 ghost use Rattle.md_value.specs.Values.{is_same};
 ghost use Rattle.md_index.specs.Order.{OneValue};
-ghost use Rattle.md_index.specs.States.{is_on, written, state};
+ghost use Rattle.md_index.specs.States.{is_on, written, place_state, state};
 ghost use Rattle.md_index.specs.Facts.{has_fact};
 ghost use Rattle.std.specs.List.Sorted.{IsStrictlyIncreasing};
-ghost use Rattle.md_index.specs.Indexed.{Holds, IsReady, CanApply, HasRoom, lists, row_between, row_set};
+ghost use Rattle.md_index.specs.Indexed.{Holds, IsReady, CanApply, HasRoom, lists, row_between, row_set, Adds};
 
 use crate::between::Probe;
-use crate::facts::{Fact, drop_shared, facts_of};
+use crate::facts::{Fact, facts_left};
 use crate::named::Named;
 use crate::names::{self, Names};
-use crate::range::places_between;
+use crate::places::{self, Places};
+use crate::range::{Found, all_between, places_between, rows_among};
 use md_world::Row;
 use std::alloc::{AllocError, Global};
 use std::collections::BTreeMap;
@@ -25,6 +25,8 @@ use std::marker::Model;
 #[derive(Drop)]
 pub struct Index {
     names: Names,
+    // The places that have a row.
+    rows: Places,
     alloc: Global,
 }
 
@@ -32,10 +34,12 @@ pub struct Index {
 #[derive(Drop)]
 pub struct IndexReady {
     place: u32,
-    // What the place has no more.
+    // What the place loses.
     drops: Vec<Fact>,
-    // What the place has then.
+    // What the place gains.
     adds: Vec<Fact>,
+    // Whether the place has a row then.
+    is_row: bool,
 }
 
 impl Model for IndexReady {
@@ -43,7 +47,7 @@ impl Model for IndexReady {
 
     ghost Value = { Prepared };
 
-    ghost view = { λ r. record { place = r.place; drops = r.drops.items; adds = r.adds.items } };
+    ghost view = { λ r. record { place = r.place; drops = r.drops.items; adds = r.adds.items; is_row = r.is_row } };
 }
 
 // Makes room for a place at each of these.
@@ -64,7 +68,7 @@ fn promise_all(
 
 // Sets whether a place is counted at each of these that has room for it.
 fn write_all(names: &mut Names, facts: &[Fact], place: u32, flag: bool)
-    ensures { (n : List ℕ) (v : OneValue) (p : ℕ) → state names.new n v p ≡ written (has_fact facts.now n v && is_eq (nat_cmp place p)) flag (state names.old n v p) }
+    ensures { (n : List ℕ) (v : OneValue) (p : ℕ) → state names.new n v p ≡ written (has_fact facts.now n v && (place == p)) flag (state names.old n v p) }
 {
     for fact in facts {
         names::write(names, fact, place, flag);
@@ -87,8 +91,29 @@ impl Index {
     {
         Index {
             names: BTreeMap::new(alloc),
+            rows: places::none(alloc),
             alloc,
         }
+    }
+
+    // Makes room for a place at each of these, and among the places that have a row.
+    fn make_room(&mut self, adds: &[Fact], place: u32) -> Result<(), AllocError>
+        ensures values { (n : List ℕ) (v : OneValue) (p : ℕ) → is_on (state self.new.names n v p) ≡ is_on (state self.old.names n v p) }
+        ensures places { (p : ℕ) → is_on (place_state self.new.rows p) ≡ is_on (place_state self.old.rows p) }
+        ensures room { OnOk result (HasRoom self.new.names adds.now place) }
+        ensures row { OnOk result (is_some (place_state self.new.rows place) ≡ true) }
+    {
+        promise_all(self.alloc, &mut self.names, adds, place)?;
+        places::promise(self.alloc, &mut self.rows, place)
+    }
+
+    // Gives up the room of a place at each of these where it is not counted.
+    fn sweep(&mut self, facts: &[Fact], place: u32)
+        ensures values { (n : List ℕ) (v : OneValue) (p : ℕ) → is_on (state self.new.names n v p) ≡ is_on (state self.old.names n v p) }
+        ensures places { (p : ℕ) → is_on (place_state self.new.rows p) ≡ is_on (place_state self.old.rows p) }
+    {
+        sweep_all(&mut self.names, facts, place);
+        places::sweep(&mut self.rows, place);
     }
 
     /// Takes all memory for a change of the row of a place from the old row, which the index has, to the new one. The index has
@@ -104,14 +129,19 @@ impl Index {
         ensures change { IfOk result (λ ready. IsReady ready (option_map (λ row. row.now) old.entry) (option_map (λ row. row.now) new.entry)) }
         ensures room { IfOk result (λ ready. CanApply self.new ready) }
     {
-        let adds = facts_of(self.alloc, new)?;
-        let mut drops = facts_of(self.alloc, old)?;
-        drop_shared(&mut drops, &adds);
-        if let Err(error) = promise_all(self.alloc, &mut self.names, &adds, place) {
-            sweep_all(&mut self.names, &adds, place);
+        let adds = facts_left(self.alloc, new, old)?;
+        let drops = facts_left(self.alloc, old, new)?;
+        let is_row = new.is_some();
+        if let Err(error) = self.make_room(&adds, place) {
+            self.sweep(&adds, place);
             return Err(error);
         }
-        Ok(IndexReady { place, drops, adds })
+        Ok(IndexReady {
+            place,
+            drops,
+            adds,
+            is_row,
+        })
     }
 
     /// Makes the change that was made ready, on the index as it was then. Takes no memory.
@@ -119,13 +149,27 @@ impl Index {
         requires { CanApply self.old ready }
         ensures { (rows : ℕ → Option Row) (new : Option Row) → Holds self.old rows → IsReady ready (rows ready.place) new → Holds self.new (row_set rows ready.place new) }
     {
-        let IndexReady { place, drops, adds } = ready;
+        let IndexReady {
+            place,
+            drops,
+            adds,
+            is_row,
+        } = ready;
         write_all(&mut self.names, &drops, place, false);
         write_all(&mut self.names, &adds, place, true);
-        sweep_all(&mut self.names, &drops, place);
+        places::write(&mut self.rows, place, is_row);
+        self.sweep(&drops, place);
     }
 
-    /// The places whose newest row has some value between the edges, in order, each once. The probe does not name the text content.
+    /// Gives up what was made ready for a change that is not to be made. Takes no memory.
+    pub fn give_up(&mut self, ready: IndexReady)
+        ensures { (rows : ℕ → Option Row) → Holds self.old rows → Holds self.new rows }
+    {
+        self.sweep(&ready.adds, ready.place);
+    }
+
+    /// The places whose newest row has some value between the edges, in order, each once. The probe does not name the
+    /// text content.
     pub fn range(&self, probe: &Probe) -> Result<Vec<u32>, AllocError>
         requires { is_same probe.now.name text_content ≡ false }
         ensures places { IfOk result (λ places. (rows : ℕ → Option Row) → Holds self.now rows → (p : ℕ) → lists places.items p ≡ row_between probe.now (rows p)) }
@@ -133,8 +177,35 @@ impl Index {
     {
         let name = Named::of(self.alloc, &probe.name)?;
         match self.names.get(&name) {
-            Some(values) => places_between(self.alloc, values, probe),
+            Some(values) => all_between(self.alloc, values, probe),
             None => Ok(Vec::new(self.alloc)),
         }
+    }
+
+    /// The same places, or, where there are more than `most`, more than `most` of them. Finding out that there are more
+    /// costs no more than finding so many.
+    pub fn range_within(&self, probe: &Probe, most: usize) -> Result<Found, AllocError>
+        requires { is_same probe.now.name text_content ≡ false }
+        ensures places { IfOk result (λ found. (rows : ℕ → Option Row) → Holds self.now rows → Adds [] found.places.items found.whole (λ p. row_between probe.now (rows p))) }
+        ensures over { IfOk result (λ found. found.whole ≡ false → most < length found.places.items) }
+        ensures upward { IfOk result (λ found. IsStrictlyIncreasing found.places.items) }
+    {
+        let name = Named::of(self.alloc, &probe.name)?;
+        match self.names.get(&name) {
+            Some(values) => places_between(self.alloc, values, probe, most),
+            None => Ok(Found {
+                places: Vec::new(self.alloc),
+                whole: true,
+            }),
+        }
+    }
+
+    /// The places that have a row, or, where there are more than `most`, more than `most` of them.
+    pub fn rows_within(&self, most: usize) -> Result<Found, AllocError>
+        ensures places { IfOk result (λ found. (rows : ℕ → Option Row) → Holds self.now rows → Adds [] found.places.items found.whole (λ p. is_some (rows p))) }
+        ensures over { IfOk result (λ found. found.whole ≡ false → most < length found.places.items) }
+        ensures upward { IfOk result (λ found. IsStrictlyIncreasing found.places.items) }
+    {
+        rows_among(self.alloc, &self.rows, most)
     }
 }

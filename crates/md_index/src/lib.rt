@@ -2,15 +2,17 @@
 #![tactic(auto)]
 
 mod between;
+mod blocks;
 mod facts;
-mod flags;
 mod held;
 mod index;
 mod named;
 mod names;
+mod places;
 mod range;
 mod span;
 mod values;
 
 pub use between::{Edge, Mark, Probe};
 pub use index::{Index, IndexReady};
+pub use range::{Found, in_order};

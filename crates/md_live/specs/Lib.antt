@@ -9,3 +9,4 @@ pub mod Tallies
 pub mod Sums
 pub mod Telling
 pub mod Headline
+pub mod Ascending

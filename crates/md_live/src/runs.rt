@@ -1,5 +1,5 @@
 // The run of a script.
-ghost use Rattle.std.specs.Prelude.{◌≡◌, ◌≤◌, true, false, IfOk, IfSome, length};
+ghost use Rattle.std.specs.Prelude.{◌≡◌, ◌≤◌, true, false, IfOk, IfSome, None, length};
 ghost use Rattle.md_script.specs.Limits.{most_lines};
 ghost use Rattle.md_source.specs.Causes.{Rose};
 ghost use Rattle.md_value.specs.Values.{IsMoment};
@@ -9,6 +9,7 @@ ghost use Rattle.md_live.specs.Actions.{actions_of};
 ghost use Rattle.md_live.specs.Reports.{Runs, report_of_actions};
 ghost use Rattle.md_live.specs.Headline.{Headline};
 ghost use Rattle.md_live.specs.Telling.{after_actions, unstarted};
+ghost use Rattle.md_live.specs.TimeForms.{out_of_range};
 
 use crate::given::give_all;
 use crate::session::{Session, Setting};
@@ -26,6 +27,7 @@ pub(crate) fn run_lines(
 ) -> Result<Session, AllocError>
     requires few { length lines.now ≤ most_lines }
     requires moment { IsMoment setting.now.moment }
+    requires timely { out_of_range setting.now.moment setting.now.offset lines.now ≡ None }
     ensures { IfOk result (λ session. session ≡ after_actions unstarted (actions_of setting.now.moment setting.now.offset lines.now givens.items)) }
 {
     let mut session = Session::new(alloc);
@@ -44,6 +46,7 @@ fn run_given(
 ) -> Result<FileReport, AllocError>
     requires few { length lines.now ≤ most_lines }
     requires moment { IsMoment setting.now.moment }
+    requires timely { out_of_range setting.now.moment setting.now.offset lines.now ≡ None }
     ensures { IfOk result (λ report. report ≡ report_of_actions (actions_of setting.now.moment setting.now.offset lines.now givens.items)) }
 {
     let session = run_lines(alloc, setting, lines, givens)?;
@@ -52,6 +55,8 @@ fn run_given(
 
 /// Runs these lines in order over a server of their own, from its opening state. `now` is in seconds since 1970 in UTC,
 /// and `offset` in minutes by which local time is ahead of UTC.
+///
+/// No form of time of the lines is out of range, as [`out_of_range`](crate::out_of_range) tells.
 ///
 /// The files of all `import` lines are read from the tree first, in the order of the script. A file with a fault, one that
 /// is absent and one that could not be read get no row; each has a line on err. Fails only where memory runs out.
@@ -64,6 +69,7 @@ pub fn run<T: Tree>(
 ) -> Result<FileReport, AllocError>
     requires few { length lines.now ≤ most_lines }
     requires moment { IsMoment now }
+    requires timely { out_of_range now offset lines.now ≡ None }
     ensures runs { IfOk result (λ report. Runs (T.content tree.old) (T.faults tree.old) (T.faults tree.new) now offset lines.now report) }
     // Over the run's events, what each client holds is its answer on one committed version, and the text is that run's.
     ensures headline { IfOk result (λ report. Headline (T.content tree.old) (T.faults tree.old) (T.faults tree.new) now offset lines.now report) }

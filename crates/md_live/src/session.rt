@@ -1,12 +1,16 @@
 // A server that the lines of a script are run on, one after the other.
-ghost use Rattle.std.specs.Prelude.{◌≡◌, ◌+◌, ◌<◌, ◌^◌, ◌∷◌, [], IfOk, OnOk, map};
+ghost use Rattle.std.specs.Prelude.{◌≡◌, ◌+◌, ◌<◌, ◌^◌, ◌∷◌, [], IfOk, OnOk, None, map};
+ghost use Rattle.std.specs.Option.{option_map};
 ghost use Rattle.md_value.specs.Values.{IsMoment};
+ghost use Rattle.md_match.specs.Forms.{first_out_of_range, capped};
 ghost use Rattle.md_machine.specs.Answers.{spec_of};
 ghost use Rattle.md_machine.specs.Steps.{step};
 ghost use Rattle.md_live.specs.Actions as actions;
 ghost use Rattle.md_live.specs.Actions.Action.{job, show};
 ghost use Rattle.md_live.specs.Actions.{action_at};
 ghost use Rattle.md_live.specs.Events.{end_of, job_events};
+ghost use Rattle.md_live.specs.Moments.{moment_of};
+ghost use Rattle.md_live.specs.TimeForms.{form_out};
 ghost use Rattle.md_live.specs.Telling.{Telling, unstarted, after_events, after_action, followed_in, asked_events, given_to, sum_so_far};
 
 use crate::moments::moment_of;
@@ -60,7 +64,7 @@ impl Model for Session {
     ghost invariant = { λ s. IsBelow s.next s.tally };
 }
 
-// What a query asks. No form of time is out of range where this is called; if one were, this would answer want of memory.
+// What a query asks, none of whose forms of time is out of range.
 fn spec_of(
     alloc: Global,
     expr: &Expr,
@@ -70,6 +74,7 @@ fn spec_of(
     order: &Order,
     batch: Batch,
 ) -> Result<Spec, AllocError>
+    requires { option_map capped (first_out_of_range moment offset expr.now) ≡ None }
     ensures { IfOk result (λ spec. spec ≡ spec_of expr.now moment offset scope.now order.now batch) }
 {
     let expr = expr.copy(alloc)?;
@@ -77,7 +82,7 @@ fn spec_of(
     let order = order.copy(alloc)?;
     match Spec::new(expr, moment, offset, scope, order, batch) {
         Ok(spec) => Ok(spec),
-        Err(_) => Err(AllocError),
+        Err(_) => unreachable!(),
     }
 }
 
@@ -257,7 +262,7 @@ impl Session {
         self.ask(alloc, &event)
     }
 
-    /// Runs a line, with what the tree gave to it if it imports a file.
+    /// Runs a line, none of whose forms of time is out of range, with what the tree gave to it if it imports a file.
     pub fn line(
         &mut self,
         alloc: Global,
@@ -267,6 +272,7 @@ impl Session {
     ) -> Result<(), AllocError>
         requires room { self.old.next + 3 < 2 ^ 64 }
         requires moment { IsMoment setting.now.moment }
+        requires timely { form_out (moment_of setting.now.moment line.now.at_ms) setting.now.offset line.now.what ≡ None }
         ensures { OnOk result (self.new ≡ after_action self.old (action_at setting.now.moment setting.now.offset line.now.at_ms line.now.what given)) }
     {
         let moment = moment_of(setting.moment, line.at_ms);

@@ -1,10 +1,11 @@
 // What the run of a script comes to, in numbers.
-ghost use Rattle.std.specs.Prelude.{◌≡◌, ◌≤◌, IfOk, length};
+ghost use Rattle.std.specs.Prelude.{◌≡◌, ◌≤◌, IfOk, None, length};
 ghost use Rattle.md_script.specs.Limits.{most_lines};
 ghost use Rattle.md_value.specs.Values.{IsMoment};
 ghost use Rattle.md_live.specs.Actions.{actions_of};
 ghost use Rattle.md_live.specs.Events.{run_events};
 ghost use Rattle.md_live.specs.Sums.{Sums, sum_of};
+ghost use Rattle.md_live.specs.TimeForms.{out_of_range};
 
 use crate::given::give_all;
 use crate::runs::run_lines;
@@ -40,6 +41,7 @@ fn sum_given(
 ) -> Result<Sum, AllocError>
     requires few { length lines.now ≤ most_lines }
     requires moment { IsMoment setting.now.moment }
+    requires timely { out_of_range setting.now.moment setting.now.offset lines.now ≡ None }
     ensures { IfOk result (λ sum. sum ≡ sum_of (run_events (actions_of setting.now.moment setting.now.offset lines.now givens.items)) clients.now) }
 {
     let session = run_lines(alloc, setting, lines, givens)?;
@@ -47,7 +49,7 @@ fn sum_given(
 }
 
 /// Runs these lines as [`run`](crate::run) does, and sums up the run in place of a report, with how many rows each of the
-/// clients holds by its query 1 at the end. Fails only where memory runs out.
+/// clients holds by its query 1 at the end. No form of time of the lines is out of range. Fails only where memory runs out.
 pub fn sum_up<T: Tree>(
     alloc: Global,
     tree: &mut T,
@@ -58,6 +60,7 @@ pub fn sum_up<T: Tree>(
 ) -> Result<Sum, AllocError>
     requires few { length lines.now ≤ most_lines }
     requires moment { IsMoment now }
+    requires timely { out_of_range now offset lines.now ≡ None }
     ensures sums { IfOk result (λ sum. Sums (T.content tree.old) (T.faults tree.old) (T.faults tree.new) now offset lines.now clients.now sum) }
     ensures later { T.faults tree.old ≤ T.faults tree.new }
     ensures content { T.content tree.new ≡ T.content tree.old }

@@ -3,3 +3,4 @@ pub mod Satisfies
 pub mod Forms
 pub mod Conditions
 pub mod Ready
+pub mod Candidates

@@ -11,3 +11,4 @@ mod wanted;
 
 pub use filter::{Filter, FilterError};
 pub use forms::first_out_of_range;
+pub use wanted::starred;

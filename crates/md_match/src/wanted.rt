@@ -87,8 +87,8 @@ fn push_starred(text: &mut String, piece: &Text) -> Result<(), AllocError>
     Ok(())
 }
 
-// The pieces with a `*` between each two.
-fn starred(alloc: Global, pieces: &[Text]) -> Result<String, AllocError>
+/// The pieces with a `*` between each two.
+pub fn starred(alloc: Global, pieces: &[Text]) -> Result<String, AllocError>
     ensures { IfOk result (λ text. chars (string_bytes text) ≡ starred pieces.now) }
 {
     let mut text = String::new(alloc);
@@ -200,10 +200,7 @@ impl Wanted {
                     marks,
                 },
                 Value::Text(text),
-            ) => {
-                let key = Key::of(alloc, text.as_str(), *fold, *marks)?;
-                Ok(pattern.matches(&key))
-            }
+            ) => pattern.matches(alloc, text.as_str(), *fold, *marks),
             (
                 Wanted::Stands {
                     op,

@@ -6,8 +6,8 @@ pub mod Asked
 pub mod Tabling
 pub mod Sharing
 pub mod Joined
+pub mod Closing
 pub mod Closed
-pub mod Legal
 pub mod Turned
 pub mod Actors
 mod Examples

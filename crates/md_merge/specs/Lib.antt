@@ -3,4 +3,3 @@ pub mod Journals
 pub mod Merging
 pub mod Laws
 pub mod Joining
-pub mod Closing

@@ -1,16 +1,16 @@
 //! What holds of every journal of a run of jobs beside what clients ask.
 
-ghost use Rattle.std.specs.Prelude.{◌≡◌, ◌<◌, ◌≤◌, ℕ, List, length};
+ghost use Rattle.std.specs.Prelude.{◌≡◌, ◌<◌, ◌≤◌, ℕ, List, length, map};
 ghost use Rattle.md_world.specs.declared.TheConstants.Limits.{STANDARD};
 ghost use Rattle.md_machine.specs.declared.Event.{Event};
-ghost use Rattle.md_machine.specs.States.{opening};
-ghost use Rattle.md_merge.specs.declared.JournalEntry.{JournalEntry};
+ghost use Rattle.md_machine.specs.States.{State, opening};
+ghost use Rattle.md_turn.specs.Passes.{Known, Ended};
+ghost use Rattle.md_pool.specs.Claims.{Drawer, EachDrawnOnce, times, total_of};
+ghost use Rattle.md_turn.specs.declared.journal.JournalEntry.{JournalEntry};
 ghost use Rattle.md_merge.specs.Jobs.{Job, table_of};
 ghost use Rattle.md_merge.specs.Merging.{IsMerged};
-ghost use Rattle.md_merge.specs.Journals.{IsLegal};
 ghost use Rattle.md_merge.specs.Laws.{last_table, NeverFull};
-ghost use Rattle.md_merge.specs.Joining.{AreOwned, ClientPass, WorkerPass, times_drawn, AreJoined};
-ghost use Rattle.md_merge.specs.Closing.{LegalFrom, AreClosed, AreClaimed};
+ghost use Rattle.md_merge.specs.Joining.{AreOwned, ClientPass, WorkerPass, AreJoined};
 
 /// In whatever order the ends of at most 100,000 jobs come, and whatever the clients ask between them, the last table is
 /// that of one thread.
@@ -25,10 +25,8 @@ pub fn one_table()
 pub fn passes_merge()
     // The journal is of a run of the jobs, where each pass made what it was for.
     ensures merged { (jobs : List Job) (asked : List Event) (first : List JournalEntry) (clients : List ClientPass) (workers : List WorkerPass) (journal : List JournalEntry) → AreJoined jobs asked first clients workers journal → IsMerged jobs asked journal }
-    // A journal that the machine makes step by step is legal.
-    ensures legal { (journal : List JournalEntry) → LegalFrom 0 (opening STANDARD) journal → IsLegal journal }
     // Each entry was made by one of the passes with which the lock was closed.
-    ensures owned { (owns : List (List JournalEntry)) (journal : List JournalEntry) → IsLegal journal → AreClosed owns journal → AreOwned owns journal }
+    ensures owned { (passes : List Known) (state : State) (journal : List JournalEntry) → Ended (opening STANDARD) passes state journal → AreOwned (map (λ (p : Known). p.own) passes) journal }
     // Each job's number was drawn once, where a seat drew a number that no job has.
-    ensures drawn { (n made past : ℕ) (workers : List WorkerPass) → AreClaimed made workers → n ≤ past → 0 < times_drawn past workers → (k : ℕ) → k < n → times_drawn k workers ≡ 1 }
+    ensures drawn { (n past : ℕ) (seats : List Drawer) → EachDrawnOnce seats → n ≤ past → 0 < total_of (λ (s : Drawer). times past s.drawn) seats → (k : ℕ) → k < n → total_of (λ (s : Drawer). times k s.drawn) seats ≡ 1 }
 {}

@@ -81,11 +81,18 @@ drawn_given n views id v h at room =
           (let f = h.each id v at in (omega arith, All-push (λ y. y < h.n + 1) v.drawn n (below_more h.n v.drawn f.1) (omega arith)));
     }
 
+-- no view drew more numbers than all together
+few_drawn : (n : ℕ) (views : List Hand) (id : ℕ) (v : Hand) → Given (n ∷ []) views → get_elem? views id ≡ some v → length v.drawn ≤ n
+few_drawn n views id v h at =
+    let is : n ≡ h.n = ap (λ l. slice_index l 0) h.words_are in
+    let all = sums_room (λ (_ : Hand). 0) (λ (u : Hand). length u.drawn) views (λ j u e. omega arith) id v at in
+    omega (arith, h.count)
+
 pub draws : (slots id : ℕ) (me : Me (Unit {0}) Hand) (st : Step (Unit {0})) → length me.0.drawn < me.0.share → Allows Rules slots id me 0 (λ n. (n + 1) % 18446744073709551616) (Draws st me)
 draws slots id me st room s h homes at word =
     let v = me.0 in
     let step : (n : ℕ) → s.words ≡ n ∷ [] → Given (n ∷ []) s.views → (w : Hand) × (a : Act (Unit {0})) × Valid s.homes me.1 a × Given (set (n ∷ []) 0 ((n + 1) % 18446744073709551616)) (set s.views id w) × Draws st me n (w, carried_after me.1 a) =
-    λ n e g. (hand v.share (v.drawn ++ n ∷ []), keeps, tt, drawn_given n s.views id v g at room, (refl, subst (λ k. All (λ y. y < k) v.drawn) (sym (ap (λ l. slice_index l 0) g.words_are)) (g.each id v at).1)) in
+    λ n e g. (hand v.share (v.drawn ++ n ∷ []), keeps, tt, drawn_given n s.views id v g at room, (refl, subst (λ k. All (λ y. y < k) v.drawn) (sym (ap (λ l. slice_index l 0) g.words_are)) (g.each id v at).1, few_drawn n s.views id v g at)) in
     subst (λ ws. (w : Hand) × (a : Act (Unit {0})) × Valid s.homes me.1 a × Given (set ws 0 ((slice_index ws 0 + 1) % 18446744073709551616)) (set s.views id w) × Draws st me (slice_index ws 0) (w, carried_after me.1 a))
     (sym h.words_are) (step h.n h.words_are (subst (λ ws. Given ws s.views) h.words_are h))
 

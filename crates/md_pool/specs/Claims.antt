@@ -1,5 +1,5 @@
 -- Numbers that seats draw, each of them once.
-use Rattle.std.specs.Prelude.{◌≡◌, ℕ, ◌+◌, ◌<◌, ◌==◌, nat_lt, List, [], ◌∷◌, ◌++◌, length, All, Option, None, Some, if◌then◌else◌}
+use Rattle.std.specs.Prelude.{◌≡◌, ℕ, ◌+◌, ◌<◌, ◌==◌, ◌≤◌, nat_lt, List, [], ◌∷◌, ◌++◌, length, All, Option, None, Some, if◌then◌else◌}
 use Rattle.atomic_table.specs.Seated.{TableId}
 
 -- which claims they are, and how many numbers may be claimed
@@ -38,12 +38,13 @@ once_below x bound = if nat_lt x bound then 1 else 0
 abbrev pub within : ℕ → ℕ → Option ℕ
 within bound number = if nat_lt number bound then Some number else None
 
--- The seat drew one number more, greater than each that it had drawn. The answer is this number, or none where it is not
--- one of those that may be claimed.
+-- The seat drew one number more, greater than each that it had drawn; as their count is no greater, at most as many claims
+-- are answered by a number as there are numbers. The answer is this number, or none where it may not be claimed.
 pub record IsClaimed (pool : Pool) (before after : Drawer) (answer : Option ℕ) : Type 0 where
   pub number : ℕ
   pub drawn : after ≡ record before { drawn = before.drawn ++ number ∷ [] }
   pub above : All (λ earlier. earlier < number) before.drawn
+  pub least : made_by before ≤ number
   pub answer_is : answer ≡ within pool.numbers number
 
 -- Of the numbers below the count of the claims made, each was drawn by one of the seats and once; no other number was drawn.

@@ -25,9 +25,9 @@ pub record Given (words : List ℕ) (views : List Hand) : Type 0 where
 abbrev pub Rules : State (Unit {0}) Hand → Type 0
 Rules s = Given s.words s.views
 
--- a draw: the number found stands behind those drawn before, and is greater than each of them
+-- a draw: the number found stands behind those drawn before, is greater than each of them, and no less than their count
 abbrev pub Draws : Step (Unit {0}) → Me (Unit {0}) Hand → ℕ → Me (Unit {0}) Hand → Type 0
-Draws st v found w = (w ≡ (hand v.0.share (v.0.drawn ++ found ∷ []), v.1)) × All (λ y. y < found) v.0.drawn
+Draws st v found w = (w ≡ (hand v.0.share (v.0.drawn ++ found ∷ []), v.1)) × All (λ y. y < found) v.0.drawn × (length v.0.drawn ≤ found)
 
 -- a look at the word: a seat with the whole share drew all numbers below it
 abbrev pub Closes : Step (Unit {0}) → Me (Unit {0}) Hand → ℕ → Me (Unit {0}) Hand → Type 0

@@ -12,6 +12,7 @@ pub(crate) fn draw(word: &Word, chair: &mut Chair) -> u64
     ensures table { chair.new.table_id ≡ chair.old.table_id }
     ensures drawn { chair.new.me ≡ (hand chair.old.me.0.share (chair.old.me.0.drawn ++ result ∷ []), chair.old.me.1) }
     ensures above { All (λ earlier. earlier < result) chair.old.me.0.drawn }
+    ensures least { length chair.old.me.0.drawn ≤ result }
 {
     word.shared.fetch_add::<Draw>(chair, 0, 1)
 }

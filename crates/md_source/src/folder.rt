@@ -85,37 +85,81 @@ fn entry_of(path: Path, metadata: &Metadata) -> Entry
     }
 }
 
-// The path of a name in a folder.
-fn child_of(alloc: Global, folder: &Path, name: &str) -> io::Result<Path> {
-    let mut text = String::from_str(alloc, folder.as_str())?;
-    text.push('/')?;
-    text.push_str(name)?;
-    match Path::read(alloc, text.as_str().trim_start_matches('/')) {
+// What a folder has.
+#[derive(Drop)]
+enum Item {
+    File(Entry),
+    /// The path of a folder, with a `/` behind it.
+    Folder(String),
+}
+
+impl Item {
+    // The text by which items of one folder come in the order of the paths of all files below it.
+    fn text(&self) -> &str {
+        match self {
+            Item::File(entry) => entry.path.as_str(),
+            Item::Folder(text) => text.as_str(),
+        }
+    }
+}
+
+fn path_of(alloc: Global, text: &str) -> io::Result<Path> {
+    match Path::read(alloc, text) {
         Ok(path) => Ok(path),
         Err(PathError::Memory) => Err(io::Error::from(AllocError)),
         Err(PathError::Bad) => Err(io::Error::from(ErrorKind::InvalidFilename)),
     }
 }
 
-// Adds the files of one folder to the entries, and its folders to those that are left.
+// The text of a folder's path before the names in it.
+fn stem_of(alloc: Global, folder: &Path) -> io::Result<String> {
+    let mut stem = String::from_str(alloc, folder.as_str())?;
+    if !folder.is_root() {
+        stem.push('/')?;
+    }
+    Ok(stem)
+}
+
+// The item of a name, whose text follows this stem, or none where it is neither file nor folder, or is gone.
+fn item_of<R: Files>(alloc: Global, files: &R, stem: &str, name: &str) -> io::Result<Option<Item>> {
+    let mut text = String::with_capacity(
+        alloc,
+        stem.len().saturating_add(name.len()).saturating_add(1),
+    )?;
+    text.push_str(stem)?;
+    text.push_str(name)?;
+    match fs::symlink_metadata(files, text.as_str()) {
+        Ok(metadata) if metadata.is_dir() => {
+            text.push('/')?;
+            Ok(Some(Item::Folder(text)))
+        }
+        Ok(metadata) if metadata.is_file() => {
+            let path = path_of(alloc, text.as_str())?;
+            Ok(Some(Item::File(entry_of(path, &metadata))))
+        }
+        Ok(_) => Ok(None),
+        Err(error) if is_absent(&error) => Ok(None),
+        Err(error) => Err(error),
+    }
+}
+
+// Adds the items of one folder to those that are left, the first of them last.
 fn visit<R: Files + AllocGlobal + Clone + Drop>(
     alloc: Global,
     rt: &R,
     folder: &Path,
-    entries: &mut Vec<Entry>,
-    left: &mut Vec<Path>,
+    left: &mut Vec<Item>,
 ) -> io::Result<()> {
+    let stem = stem_of(alloc, folder)?;
+    let mut items = Vec::new(alloc);
     for item in fs::read_dir(rt, system_path(folder))? {
         let item = item?;
-        let path = child_of(alloc, folder, item.file_name())?;
-        match fs::symlink_metadata(rt, path.as_str()) {
-            Ok(metadata) if metadata.is_dir() => left.push(path)?,
-            Ok(metadata) if metadata.is_file() => entries.push(entry_of(path, &metadata))?,
-            Ok(_) => {}
-            Err(error) if is_absent(&error) => {}
-            Err(error) => return Err(error),
+        if let Some(item) = item_of(alloc, rt, stem.as_str(), item.file_name())? {
+            items.push(item)?;
         }
     }
+    items.sort_unstable_by(|item, other| other.text().cmp(item.text()));
+    left.extend(items)?;
     Ok(())
 }
 
@@ -127,16 +171,20 @@ fn walk<R: Files + AllocGlobal + Clone + Drop>(
 ) -> io::Result<Vec<Entry>> {
     let mut entries = Vec::new(alloc);
     let mut left = Vec::new(alloc);
-    visit(alloc, rt, folder, &mut entries, &mut left)?;
+    visit(alloc, rt, folder, &mut left)?;
     for _ in 0..u64::MAX {
-        let Some(folder) = left.pop() else {
-            break;
-        };
-        match visit(alloc, rt, &folder, &mut entries, &mut left) {
-            Err(error) if !is_absent(&error) => return Err(error),
-            _ => {}
+        match left.pop() {
+            None => break,
+            Some(Item::File(entry)) => entries.push(entry)?,
+            Some(Item::Folder(text)) => {
+                match visit(alloc, rt, &path_of(alloc, text.as_str())?, &mut left) {
+                    Err(error) if !is_absent(&error) => return Err(error),
+                    _ => {}
+                }
+            }
         }
     }
+    // They are in order, but where a name changed its kind meanwhile.
     entries.sort_unstable_by(|entry, other| entry.path.as_str().cmp(other.path.as_str()));
     entries.dedup_by(|entry, other| entry.path == other.path);
     Ok(entries)

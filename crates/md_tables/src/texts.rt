@@ -78,6 +78,6 @@ pub fn pattern(alloc: Global, fields: &[Field]) -> Result<String, RowError> {
         return Err(RowError::Field);
     }
     let pattern = Pattern::of(alloc, &pieces, modifiers.fold, modifiers.marks)?;
-    let key = Key::of(alloc, text.text()?, modifiers.fold, modifiers.marks)?;
-    yes_or_no(alloc, pattern.matches(&key))
+    let matches = pattern.matches(alloc, text.text()?, modifiers.fold, modifiers.marks)?;
+    yes_or_no(alloc, matches)
 }

@@ -1,7 +1,9 @@
 -- The key of an ASCII text.
-use Rattle.std.proofs.Common.{◌≡◌, ℕ, zero, suc, ◌<◌, Bool, true, false, not, List, [], ◌∷◌, map, filter, All, IsAscii, if◌then◌else◌, refl, ap, ap₂, cond, ◌∙◌, arith, suc-le-suc, zero-le}
+use Rattle.std.proofs.Common.{◌≡◌, ℕ, zero, suc, ◌<◌, Bool, true, false, not, List, [], ◌∷◌, chars, map, filter, All, IsAscii, sym, if◌then◌else◌, refl, ap, ap₂, cond, ◌∙◌, arith, suc-le-suc, zero-le}
 use Rattle.std.specs.Char.{to_ascii_lowercase}
 use Rattle.std.proofs.lemmas.Bool.Decides.{nat_tests}
+use Rattle.std.proofs.lemmas.Str.{chars-IsAscii}
+use Rattle.std.proofs.lemmas.Str.Ascii.{IsAscii-map, lowercase_ascii}
 use Rattle.std.proofs.lemmas.List.{get_or_default}
 use Rattle.ucd_table.proofs.Computing.{tables}
 use Rattle.ucd_table.proofs.Facts.{Stepped-below}
@@ -43,3 +45,15 @@ key-ascii true true cs all = ap (filter is_kept) (lowered cs all) ∙ filter-low
 
 pub All-IsAscii : (bs : List ℕ) → IsAscii bs → All (λ c. c < 128) bs
 All-IsAscii bs ascii = λ k d lt. let same = get_or_default bs k d 0 lt in let below = ascii k in omega arith
+
+pub chars-key-ascii : (fold marks : Bool) (text : List ℕ) → IsAscii text → key fold marks (chars text) ≡ (if fold then map to_ascii_lowercase text else text)
+chars-key-ascii fold marks text ascii = ap (key fold marks) (chars-IsAscii text ascii) ∙ key-ascii fold marks text (All-IsAscii text ascii)
+
+pub own-key : (fold marks : Bool) (text : List ℕ) → fold ≡ false → IsAscii text → key fold marks (chars text) ≡ chars text
+own-key fold marks text is ascii =
+    chars-key-ascii fold marks text ascii ∙ ap (λ b. cond b (map to_ascii_lowercase text) text) is ∙ sym (chars-IsAscii text ascii)
+
+pub lowered-key : (fold marks : Bool) (text made : List ℕ) → fold ≡ true → IsAscii text → made ≡ map to_ascii_lowercase text → chars made ≡ key fold marks (chars text)
+lowered-key fold marks text made folds ascii is =
+    ap chars is ∙ chars-IsAscii _ (IsAscii-map to_ascii_lowercase text lowercase_ascii ascii)
+    ∙ sym (chars-key-ascii fold marks text ascii ∙ ap (λ b. cond b (map to_ascii_lowercase text) text) folds)

@@ -1,3 +1,5 @@
 pub mod Ascii
+pub mod Bytes
+pub mod Finds
 pub mod Scans
 pub mod Wilds

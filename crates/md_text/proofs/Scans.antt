@@ -9,26 +9,18 @@ use Rattle.md_text.specs.Wild.{some_end, wild}
 use Rattle.md_text.specs.Scan.{first_after}
 use Rattle.md_text.proofs.Wilds.{HasEnd, some_end-Decides}
 
--- ---- what the call that looks for the leftmost place answers
+-- ---- where a text begins with a piece
 
-starts_with-append : (p s rest : List ℕ) → s ≡ p ++ rest → starts_with nat_eq s p ≡ true
+pub starts_with-append : (p s rest : List ℕ) → s ≡ p ++ rest → starts_with nat_eq s p ≡ true
 starts_with-append p s rest e = (starts_is Decides-eqb s p (starts_with nat_eq s p) refl).1 rest e
 
-starts_with-not : (p s : List ℕ) → ((rest : List ℕ) → s ≢ p ++ rest) → starts_with nat_eq s p ≡ false
+pub starts_with-not : (p s : List ℕ) → ((rest : List ℕ) → s ≢ p ++ rest) → starts_with nat_eq s p ≡ false
 starts_with-not p s none =
     false_from_ne_true _ (λ h. none _ ((starts_is Decides-eqb s p (starts_with nat_eq s p) refl).0 h))
 
-first_after-starts : (p s : List ℕ) → starts_with nat_eq s p ≡ true → first_after p s ≡ Some (drop (length p) s)
+pub first_after-starts : (p s : List ℕ) → starts_with nat_eq s p ≡ true → first_after p s ≡ Some (drop (length p) s)
 first_after-starts p [] h = cond-true _ _ _ h ∙ ap Some (sym (drop_all (length p) [] (omega arith)))
 first_after-starts p (c ∷ cs) h = cond-true _ _ _ h
-
-pub first_after-here : (p s rest : List ℕ) → s ≡ p ++ rest → first_after p s ≡ Some rest
-first_after-here p s rest e =
-    first_after-starts p s (starts_with-append p s rest e) ∙ ap Some (ap (drop (length p)) e ∙ drop_at p rest (length p) refl)
-
-pub first_after-next : (p s : List ℕ) (c : ℕ) (cs : List ℕ) → s ≡ c ∷ cs → ((rest : List ℕ) → s ≢ p ++ rest) → first_after p s ≡ first_after p cs
-first_after-next p s c cs e none =
-    ap (first_after p) e ∙ cond-false _ _ _ (starts_with-not p (c ∷ cs) (λ rest same. none rest (e ∙ same)))
 
 -- ---- the leftmost place leaves the longest rest, and a longer rest has every end of a shorter one
 

@@ -1,5 +1,5 @@
 // The characters of a key: decomposed, folded, and less their marks.
-ghost use Rattle.std.specs.Prelude.{◌≡◌, ◌++◌, chars, map, filter, IfOk, OnOk, if◌then◌else◌};
+ghost use Rattle.std.specs.Prelude.{◌≡◌, ◌++◌, chars, map, filter, string_bytes, Bool, IfOk, IsTrue, OnOk, if◌then◌else◌};
 ghost use Rattle.std.specs.Char.{to_ascii_lowercase};
 ghost use Rattle.caseless.specs.Caseless.{default_case_fold, canonical_key};
 ghost use Rattle.ucd_case.specs.CaseFolding.{full_fold};
@@ -117,4 +117,32 @@ pub fn key_characters(
     } else {
         unicode_key(alloc, text, fold, marks)
     }
+}
+
+// The characters in UTF-8.
+fn spelled(alloc: Global, characters: &[char]) -> Result<String, AllocError>
+    ensures { IfOk result (λ made. chars (string_bytes made) ≡ characters.now) }
+{
+    let mut made = String::with_capacity(alloc, characters.len())?;
+    for character in characters {
+        made.push(*character)?;
+    }
+    Ok(made)
+}
+
+/// Whether this shows that the text is its own key, under any `marks`.
+pub fn is_own_key(text: &str, fold: bool) -> bool
+    ensures { (marks : Bool) → IsTrue result → key fold marks (chars text.now) ≡ chars text.now }
+{
+    !fold && text.is_ascii()
+}
+
+/// The key of a text, as a text.
+pub fn key_text(alloc: Global, text: &str, fold: bool, marks: bool) -> Result<String, AllocError>
+    ensures { IfOk result (λ made. chars (string_bytes made) ≡ key fold marks (chars text.now)) }
+{
+    if fold && text.is_ascii() {
+        return text.to_ascii_lowercase(alloc);
+    }
+    spelled(alloc, &key_characters(alloc, text, fold, marks)?)
 }

@@ -4,3 +4,4 @@ pub mod Moves
 pub mod Slots
 pub mod Passing
 pub mod Entries
+pub mod Crossing

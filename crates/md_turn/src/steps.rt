@@ -13,6 +13,7 @@ use crate::rule::{
     Amount, Both, Compare, Cut, Draw, Leave, Look, Opening, Refuse, TurnSeat, TurnTable,
 };
 use md_machine::{Event, Reply};
+use std::hint::spin_loop;
 use std::sync::Wait;
 use std::thread::yield_now;
 
@@ -24,6 +25,18 @@ fn draw_ticket<C: Core>(turns: &TurnTable<C>, seat: &mut TurnSeat<C>) -> u64
     ensures drawn { seat.new.me ≡ (view seat.old.me.0.share seat.old.me.0.seen seat.old.me.0.compared seat.old.me.0.own seat.old.me.0.refused true result false, []) }
 {
     turns.shared.fetch_add::<Draw<C>>(seat, 0, 1)
+}
+
+// How often who is next looks again before it yields its processor.
+const SPINS: u32 = 200;
+
+// A pause before the next look, by who has so many others before it and has looked so often.
+fn pause(ahead: u64, looks: u32) {
+    if ahead > 1 || looks > SPINS {
+        yield_now();
+    } else {
+        spin_loop();
+    }
 }
 
 fn await_turn<C: Core, O: Opening, R: Wait>(
@@ -38,11 +51,14 @@ fn await_turn<C: Core, O: Opening, R: Wait>(
     ensures table { seat.new.table_id ≡ seat.old.table_id }
     ensures taken { Takes step journal_of (state_of C.state) O.state seat.old.me seat.new.me }
 {
+    let mut looks = 0u32;
     for _ in rt.forever() {
-        if turns.shared.load::<Look<C, O>>(seat, 1) == ticket {
+        let serving = turns.shared.load::<Look<C, O>>(seat, 1);
+        if serving == ticket {
             return;
         }
-        yield_now();
+        pause(ticket.wrapping_sub(serving), looks);
+        looks = looks.saturating_add(1);
     }
     unreachable!()
 }

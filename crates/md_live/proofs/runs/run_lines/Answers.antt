@@ -6,7 +6,9 @@ use Rattle.md_files.specs.declared.asking.ImportResult.{ImportResult}
 use Rattle.md_script.specs.declared.script.Line.{Line}
 use Rattle.md_live.specs.Actions.{Action, action_of, actions_of}
 use Rattle.md_live.specs.Telling.{Telling, after_action, after_actions}
+use Rattle.md_live.specs.TimeForms.{out_of_range}
 use Rattle.md_live.proofs.Telling.{none_left, few_after}
+use Rattle.md_live.proofs.TimeForms.{timely_then}
 use Rattle.md_live.proofs.runs.run_lines.Goals as goal
 
 pub loop-line-preserved : goal.loop-line-preserved
@@ -30,11 +32,20 @@ loop-line-preserved c =
     record {
       few = omega (arith, few, places, shorter, few_after l.session (action_of now offset line given));
       long = omega (arith, long, fewer, steps.1.1);
+      timely = (timely_then now offset line lines (sym (ap (out_of_range now offset) first) ∙ l.invariant.timely)).1;
       rest = ap (λ (t : Telling). after_actions t (actions_of now offset lines givens)) new
           ∙ sym (ap (λ (ls : List Line). after_actions l.session (actions_of now offset ls (into_iter_items (zip_second l.line-iterator)))) first
           ∙ ap (λ (gs : List (Option ImportResult)). after_actions l.session (actions_of now offset (line ∷ lines) gs)) second)
           ∙ l.invariant.rest;
     }
+
+pub line-requires-clause-timely : goal.line-requires-clause-timely
+line-requires-clause-timely c =
+    let now = c.args.setting.now.moment in
+    let offset = c.args.setting.now.offset in
+    let l = c.loop-line in
+    let first = c.in-Some.ensures.steps.0 in
+    (timely_then now offset c.in-Some.line.now (iter_rest (zip_first c.next.new.self)) (sym (ap (out_of_range now offset) first) ∙ l.invariant.timely)).0
 
 pub returns : goal.returns
 returns c =

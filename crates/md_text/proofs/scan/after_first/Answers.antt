@@ -1,17 +1,15 @@
-use Rattle.std.proofs.Common.{sym, ◌∙◌, None, Some}
-use Rattle.std.proofs.lemmas.Bool.Decides.{Decides-eqb}
-use Rattle.std.proofs.lemmas.Slice.Eq.{strip_prefix_is}
-use Rattle.md_text.proofs.Scans.{first_after-here, first_after-next}
+use Rattle.std.proofs.Common.{rules, ◌+◌, ◌-◌, length, drop, Some, sym, ap, ◌∙◌, arith}
+use Rattle.std.proofs.lemmas.List.{length-drop, take_all}
+use Rattle.md_text.proofs.Finds.{first_after-found, first_after-none}
 use Rattle.md_text.proofs.scan.after_first.Goals as goal
 
-pub returns-in-Some : goal.returns-in-Some
-returns-in-Some c =
-    let p = c.args.piece.now in
-    let s = c.loop-after.rest.now in
-    sym (first_after-here p s _ (strip_prefix_is Decides-eqb s p (Some c.in-Some.after) c.in-Some.ensures.cases)) ∙ c.loop-after.invariant
+pub returns-in_err-place : goal.returns-in_err-place
+returns-in_err-place c =
+    let none = first_after-none c.args.text.now c.args.piece.now c.in_err-place.ensures in
+    search (rules, none)
 
-pub loop-after-preserved : goal.loop-after-preserved
-loop-after-preserved c =
-    let p = c.args.piece.now in
-    let s = c.loop-after.rest.now in
-    sym (first_after-next p s _ _ c.in_ok-tail-in-None.ensures.cases.0 (strip_prefix_is Decides-eqb s p None c.in-None.ensures.cases)) ∙ c.loop-after.invariant
+pub returns : goal.returns
+returns c =
+    let text = c.args.text.now in
+    let n = c.in_ok-place.place + length c.args.piece.now in
+    ap Some (take_all (length text - n) (drop n text) (omega (arith, length-drop n text))) ∙ sym (first_after-found text c.args.piece.now c.in_ok-place.place c.in_ok-place.ensures)

@@ -1,37 +1,13 @@
-use Rattle.std.proofs.Common.{◌≡◌, ◌++◌, ◌∷◌, [], bytes_eq, sym, ◌∙◌, ap, None, Some}
-use Rattle.std.proofs.lemmas.Bool.Decides.{Decides-eqb}
-use Rattle.std.proofs.lemmas.List.{nil_from_length}
-use Rattle.std.proofs.lemmas.Slice.Eq.{strip_prefix_is}
+use Rattle.std.proofs.Common.{rules, sym, ◌∙◌, ap, chars, map}
+use Rattle.std.specs.Prelude.{encode_utf8_all}
+use Rattle.std.proofs.lemmas.Str.{encodes-chars}
 use Rattle.md_text.specs.Wild.{wild}
-use Rattle.md_text.proofs.Scans.{scan-one, scan-rest, scan-no_rest}
+use Rattle.md_text.proofs.Bytes.{wild-encodes}
 use Rattle.md_text.proofs.scan.is_wild.Goals as goal
 
-pub returns-in_default-split_last : goal.returns-in_default-split_last
-returns-in_default-split_last c =
+pub returns : goal.returns
+returns c =
     let text = c.args.text.now in
-    let first = c.in-Some.first.now in
-    let is : c.args.pieces.now ≡ first ∷ [] = c.in-Some.ensures.cases.0 ∙ ap (λ l. first ∷ l) (nil_from_length _ c.in_default-split_last.ensures.cases) in
-    c.eq.ensures ∙ ap (bytes_eq text) c.as_slice.ensures ∙ sym (ap (λ l. wild l text) is ∙ scan-one first text)
-
-pub returns-in-Some-strip_prefix : goal.returns-in-Some-strip_prefix
-returns-in-Some-strip_prefix c =
-    let text = c.args.text.now in
-    let first = c.in-Some.first.now in
-    let middle = c.in-Some-split_last.middle.now in
-    let last = c.in-Some-split_last.last.now in
-    let rest = c.in-Some-strip_prefix.rest.now in
-    let is : c.args.pieces.now ≡ first ∷ (middle ++ last ∷ []) = c.in-Some.ensures.cases.0 ∙ ap (λ l. first ∷ l) c.in-Some-split_last.ensures.cases.0 in
-    let begins : text ≡ first ++ rest =
-    strip_prefix_is Decides-eqb text _ (Some c.in-Some-strip_prefix.rest) c.in-Some-strip_prefix.ensures.cases
-    ∙ ap (λ l. l ++ rest) c.as_slice-2.ensures in
-    c.is_followed.ensures ∙ sym (ap (λ l. wild l text) is ∙ scan-rest first middle last text rest begins)
-
-pub returns-in-None : goal.returns-in-None
-returns-in-None c =
-    let text = c.args.text.now in
-    let first = c.in-Some.first.now in
-    let middle = c.in-Some-split_last.middle.now in
-    let last = c.in-Some-split_last.last.now in
-    let is : c.args.pieces.now ≡ first ∷ (middle ++ last ∷ []) = c.in-Some.ensures.cases.0 ∙ ap (λ l. first ∷ l) c.in-Some-split_last.ensures.cases.0 in
-    let none = strip_prefix_is Decides-eqb text _ None c.in-None.ensures.cases in
-    sym (ap (λ l. wild l text) is ∙ scan-no_rest first middle last text (λ rest e. none rest (e ∙ ap (λ l. l ++ rest) (sym c.as_slice-2.ensures))))
+    let pieces = c.args.pieces.now in
+    c.are_wild_bytes.ensures ∙ ap (wild (map encode_utf8_all pieces)) (c.as_bytes.ensures.value ∙ sym (encodes-chars text (search rules)))
+    ∙ wild-encodes pieces (chars text)

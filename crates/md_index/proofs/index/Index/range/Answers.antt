@@ -13,13 +13,13 @@ returns-in-Some-clause-places c =
     let names = c.args.self.now.names in
     let probe = c.args.probe.now in
     let found : get (slice_cmp nat_cmp) names probe.name ≡ Some c.in-Some.values.now = search rules in
-    IfOk-weaker c.places_between.result _ _
-    (λ places says rows holds p. says p ∙ in_range names probe c.requires rows holds p c.in-Some.values.now found c.places_between.ensures.ordered)
-    c.places_between.ensures.places
+    IfOk-weaker c.all_between.result _ _
+    (λ places says rows holds p. says p ∙ in_range names probe c.requires rows holds.0 p c.in-Some.values.now found c.all_between.ensures.ordered)
+    c.all_between.ensures.places
 
 pub returns-clause-places : goal.returns-clause-places
 returns-clause-places c rows holds p =
     let names = c.args.self.now.names in
     let probe = c.args.probe.now in
     let absent : get (slice_cmp nat_cmp) names probe.name ≡ None = search rules in
-    ap (λ xs. lists xs p) c.new.ensures.items ∙ out_of_range names probe c.requires rows holds p absent
+    ap (λ xs. lists xs p) c.new.ensures.items ∙ out_of_range names probe c.requires rows holds.0 p absent

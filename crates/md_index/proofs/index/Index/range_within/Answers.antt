@@ -1,0 +1,28 @@
+use Rattle.std.proofs.Common.{rules, ◌≡◌, true, [], sym, subst}
+use Rattle.std.specs.Prelude.{Some, None}
+use Rattle.std.specs.Ordering.{nat_cmp}
+use Rattle.std.specs.Cmp.Lexicographic.{slice_cmp}
+use Rattle.std.specs.BTreeMap.{get}
+use Rattle.std.proofs.lemmas.Result.{IfOk-weaker}
+use Rattle.md_index.specs.Indexed.{counted_between, row_between, Adds}
+use Rattle.md_index.proofs.Adding.{adds_same, adds_none}
+use Rattle.md_index.proofs.Ranges.{in_range, out_of_range}
+use Rattle.md_index.proofs.index.Index.range_within.Goals as goal
+
+pub returns-in-Some-clause-places : goal.returns-in-Some-clause-places
+returns-in-Some-clause-places c =
+    let names = c.args.self.now.names in
+    let probe = c.args.probe.now in
+    let values = c.in-Some.values.now in
+    let found : get (slice_cmp nat_cmp) names probe.name ≡ Some values = search rules in
+    IfOk-weaker c.places_between.result _ _
+    (λ found-places says rows holds. adds_same [] _ _ (counted_between probe values.entries) (λ p. row_between probe (rows p)) (λ p. in_range names probe c.requires rows holds.0 p values found c.places_between.ensures.ordered) says)
+    c.places_between.ensures.adds
+
+pub returns-clause-places : goal.returns-clause-places
+returns-clause-places c rows holds =
+    let names = c.args.self.now.names in
+    let probe = c.args.probe.now in
+    let absent : get (slice_cmp nat_cmp) names probe.name ≡ None = search rules in
+    subst (λ xs. Adds [] xs true (λ p. row_between probe (rows p))) (sym c.new.ensures.items)
+    (adds_none [] true (λ p. row_between probe (rows p)) (λ p. sym (out_of_range names probe c.requires rows holds.0 p absent)))

@@ -1,0 +1,14 @@
+pub mod Chaining
+pub mod Placing
+pub mod Laws
+pub mod Applying
+pub mod Exact
+pub mod Reading
+pub mod Giving
+pub mod Pinning
+pub mod Rooming
+pub mod Refusing
+pub mod Tabling
+pub mod Naming
+pub mod Searching
+pub mod Opening

@@ -1,0 +1,131 @@
+-- What a lock has under it may go from thread to thread.
+
+use denote.RattleType.{RattleType}
+use denote.Hole.{as_row}
+use denote.Hole.Fix.{holes}
+use denote.Hole.FixLaws.{layer_row}
+use denote.Hole.FixSend.{Sends, fix_send}
+use denote.Struct.Field.{row_field}
+use denote.Struct.Declared as struct
+use denote.Enum.Declared as enum
+use denote.Param.Send.{IsSend, IsSync, sendable, plain_send, struct_send, enum_send, recorded_send, struct_sync, recorded_sync, view_sync}
+use denote.Param.SendFields.{as_row_send, variants_send}
+use Rattle.sqlite_items.specs.contracts.boxed.Boxed as boxed
+use Rattle.sqlite_items.specs.contracts.items.Items as items
+use Rattle.sqlite_items.proofs.boxed.Boxed.TheSendSync as boxed_sent
+use Rattle.sqlite_items.proofs.items.Items.TheSendSync as items_sent
+use Rattle.md_expr_tree.specs.contracts.tree.Test as test
+use Rattle.md_expr_tree.specs.contracts.tree.Expr as expr
+use Rattle.md_expr_tree.specs.contracts.tree.Expr.TheKnot as knot
+use Rattle.md_expr_tree.proofs.tree.Test.TheSendSync as test_sent
+use Rattle.md_value.proofs.path.Path.TheSendSync as path_sent
+use Rattle.md_world.proofs.order.Order.TheSendSync as order_sent
+use Rattle.md_world.proofs.Change.TheSendSync as change_sent
+use Rattle.md_machine.specs.contracts.Spec as spec
+use Rattle.md_machine.specs.contracts.Event as event
+use Rattle.md_machine.proofs.Batch.TheSendSync as batch_sent
+use Rattle.md_machine.proofs.Reply.TheSendSync as reply_sent
+use Rattle.std.proofs.alloc.Global.TheSendSync as heap_sent
+use Rattle.std.proofs.vec.Vec.TheSendSync as vec_sent
+use Rattle.std.proofs.Crossing.{frees}
+use Rattle.md_turn.specs.contracts.journal.JournalEntry as entry
+use Rattle.std.specs.contracts.option.Option as option
+use Rattle.std.specs.contracts.snapshot.Snapshot as snapshot
+use Rattle.std.specs.contracts.alloc.Global as heap
+use Rattle.std.specs.contracts.impls.GlobalAllocator.TheImpl.{ghosts}
+use Rattle.atomic_table.proofs.owned.Table.TheSendSync as table_sent
+use Rattle.md_turn.specs.contracts.held.Held as held
+use Rattle.md_turn.specs.declared.held.Core.{Ghosts}
+use Rattle.md_turn.specs.contracts.rule.View as view
+use Rattle.md_turn.specs.contracts.rule.Rule as rule
+use Rattle.md_turn.specs.contracts.rule.RuleTableRuleOptionHeldViewSnapshot.TheImpl as impl
+use Rattle.md_turn.specs.contracts.turn.Turn as turn
+use Rattle.md_turn.specs.contracts.turn.Turn.TheInside as inside
+
+-- an expression holds expressions, so this is shown of one layer of it first
+layer_sends : (h : knot.the_members → RattleType) → ((j : knot.the_members) → IsSend (h j)) → IsSend (layer_row knot.ring knot.member-Expr h)
+layer_sends h each =
+    let hole : RattleType = h knot.member-Expr in
+    let sent : IsSend hole = each knot.member-Expr in
+    variants_send (knot.type-Expr hole hole hole) (
+      (as_row_send (row_field (as_row test.the_field)) test_sent.the_send, tt),
+      (
+        (as_row_send (row_field (boxed.the_row hole)) (boxed_sent.the_send hole sent), tt),
+        (
+          (as_row_send (row_field (items.the_row hole)) (items_sent.the_send hole sent), tt),
+          ((as_row_send (row_field (items.the_row hole)) (items_sent.the_send hole sent), tt), tt),
+        ),
+      ),
+    )
+
+hole_sends : IsSend expr.the_hole
+hole_sends = fix_send knot.ring (expr.by_members (λ i. Sends knot.ring i) record { send = layer_sends }) knot.member-Expr
+
+expr_sends : IsSend (expr.the_field).row
+expr_sends =
+    enum_send (enum.shape expr.the_type) (
+      (test_sent.the_field_send, tt),
+      (
+        (boxed_sent.the_send expr.the_hole hole_sends, tt),
+        ((items_sent.the_send expr.the_hole hole_sends, tt), ((items_sent.the_send expr.the_hole hole_sends, tt), tt)),
+      ),
+    )
+
+spec_sends : IsSend (spec.the_field).row
+spec_sends =
+    struct_send (struct.shape spec.the_type)
+    (expr_sends, (plain_send _ _ _ _ _, (plain_send _ _ _ _ _, (path_sent.the_send, (order_sent.the_send, (batch_sent.the_field_send, tt))))))
+
+event_sends : IsSend (event.the_field).row
+event_sends =
+    enum_send (enum.shape event.the_type) (
+      (path_sent.the_send, tt),
+      (
+        (plain_send _ _ _ _ _, (change_sent.the_field_send, tt)),
+        (
+          (plain_send _ _ _ _ _, tt),
+          (
+            (plain_send _ _ _ _ _, (plain_send _ _ _ _ _, (spec_sends, tt))),
+            (
+              (plain_send _ _ _ _ _, (plain_send _ _ _ _ _, (plain_send _ _ _ _ _, tt))),
+              (
+                (plain_send _ _ _ _ _, (plain_send _ _ _ _ _, tt)),
+                (
+                  (plain_send _ _ _ _ _, (plain_send _ _ _ _ _, (plain_send _ _ _ _ _, tt))),
+                  (
+                    (plain_send _ _ _ _ _, (plain_send _ _ _ _ _, (plain_send _ _ _ _ _, tt))),
+                    ((plain_send _ _ _ _ _, (plain_send _ _ _ _ _, tt)), ((plain_send _ _ _ _ _, tt), tt)),
+                  ),
+                ),
+              ),
+            ),
+          ),
+        ),
+      ),
+    )
+
+entry_field_sends : IsSend (entry.the_field).row
+entry_field_sends = struct_send (struct.shape entry.the_type) (plain_send _ _ _ _ _, (event_sends, (reply_sent.the_field_send, tt)))
+
+entry_sends : IsSend entry.the_row
+entry_sends = recorded_send (entry.the_field).row _ _ (entry.the_type).to_one entry_field_sends
+
+held_field_sends : (C : RattleType) → IsSend C → IsSend (held.the_field C).row
+held_field_sends C c = struct_send (struct.shape (held.the_type C)) (heap_sent.the_field_send, (c, (search (sendable, vec_sent.the_send, entry_sends, heap_sent.the_send, frees) depth 8, tt)))
+
+held_sends : (C : RattleType) → IsSend C → IsSend (held.the_row C)
+held_sends C c = recorded_send (held.the_field C).row _ _ (held.the_type C).to_one (held_field_sends C c)
+
+slot_sends : (C : RattleType) → IsSend C → IsSend (option.the_row (held.the_row C))
+slot_sends C c =
+    let slot : RattleType = held.the_row C in
+    recorded_send (option.the_field slot).row _ _ (option.the_type slot).to_one (enum_send (enum.shape (option.the_type slot)) (tt, ((held_sends C c, tt), tt)))
+
+inside_syncs : (C : RattleType) (g : Ghosts C.Denot) → IsSend C → IsSync (inside.the_row C g)
+inside_syncs C g c =
+    recorded_sync (inside.the_field C g).row _ _ (inside.the_type C g).to_one (struct_sync (struct.shape (inside.the_type C g))
+    (table_sent.the_field_sync (option.the_row (held.the_row C)) view.the_row (snapshot.the_row C) (rule.the_row C) heap.the_row (impl.ghosts C g impl.no_dict impl.no_dict) ghosts (slot_sends C c) heap_sent.the_send heap_sent.the_sync frees, tt))
+
+-- threads may share a lock
+pub turn_syncs : (C : RattleType) (g : Ghosts C.Denot) → IsSend C → IsSync (turn.the_row C g)
+turn_syncs C g c = search (view_sync, inside_syncs C g c)
