@@ -51,7 +51,10 @@ shown moment faults = record { known = moment; faults = faults }
 -- a tree, a script, a clock, and the sinks for out and for err
 abbrev pub outside : Files → Bytes → Shown → Bytes → Bytes → Outside
 outside tree script clock out err =
-    record { inputs = record { tree = tree; script = script; clock = clock }; outputs = record { err = err; out = out } }
+    record {
+      inputs = record { tree = tree; script = script; clock = clock };
+      outputs = record { err = err; out = out };
+    }
 
 -- what is known of a tree, a script and a clock, each beside its count of faults
 abbrev pub inputs : Option Content → ℕ → Option (List ℕ) → ℕ → Option ℤ → ℕ → Inputs

@@ -12,13 +12,13 @@ use md_words::Command;
 use std::alloc::Global;
 use std::thread::Threads;
 
-/// Runs a command: `mdfind`, `mdls` and `mdimport` over the tree, `live` over the script, and `gen` over files that it makes.
-/// The whole text for `err` is put before that for `out`.
+/// Runs a command: `mdfind`, `mdls` and `mdimport` over the tree, `live` over the script, and `gen` over files that
+/// it makes. The whole text for `err` is put before that for `out`.
 ///
-/// The command is one that `read_words` gives. A tool calls only what it needs: `mdfind` the clock once and then the tree,
-/// `mdls` and `mdimport` the tree alone, the lists of importers and attributes nothing, `live` the script, which has at most
-/// 67,108,864 bytes and 100,000 lines, then the clock once, and then the tree for the files that the script imports, and
-/// `gen` nothing. `mdfind` imports files in as many threads as there are processors.
+/// The command is one that `read_words` gives. A tool calls only what it needs: `mdfind` the clock once and then the
+/// tree, `mdls` and `mdimport` the tree alone, the lists of importers and attributes nothing, `live` the script,
+/// which has at most 67,108,864 bytes and 100,000 lines, then the clock once, and then the tree for the files that
+/// the script imports, and `gen` nothing. `mdfind` imports files in as many threads as there are processors.
 pub fn run_tool<R: Threads + Sync, T: Tree, S: Source, C: Clock, K: Sink, E: Sink>(
     rt: &R,
     alloc: Global,
@@ -43,8 +43,8 @@ pub fn run_tool<R: Threads + Sync, T: Tree, S: Source, C: Clock, K: Sink, E: Sin
     run_command(rt, alloc, command, tree, script, clock, out, err)
 }
 
-/// The top call: reads the words of the program and runs their command by `run_tool`. Words that are not understood have a
-/// line on `err`, and nothing else is called.
+/// The top call: reads the words of the program and runs their command as `run_tool` does. Words that are not
+/// understood have a line on `err`, and nothing else is called.
 pub fn run<R: Threads + Sync, T: Tree, S: Source, C: Clock, K: Sink, E: Sink>(
     rt: &R,
     alloc: Global,
