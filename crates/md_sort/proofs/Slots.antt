@@ -4,7 +4,7 @@ use Rattle.std.specs.Prelude.{Option, None, Some, is_some, slice_get}
 use Rattle.std.specs.List.{AllByRecursion, prefix_len, remove, list_any}
 use Rattle.std.specs.List.Sorted.{IsPermutation, IsPartitionedBy}
 use Rattle.std.proofs.Math.Numerals.{one-add}
-use Rattle.std.proofs.lemmas.List.Sorted.{IsPermutation-refl, IsPermutation-sym, IsPermutation-trans, IsPermutation-cons, IsPermutation-to_prefix, list_any-IsPermutation}
+use Rattle.std.proofs.lemmas.List.Sorted.{IsPermutation-refl, IsPermutation-sym, IsPermutation-trans, IsPermutation-cons, IsPermutation-to_front, list_any-IsPermutation}
 use Rattle.std.specs.Option.{option_map_or}
 use Rattle.std.proofs.lemmas.Option.{slice_get_within}
 use Rattle.std.proofs.lemmas.Map.Keys.{IsDistinct-cons, IsDistinct-head, IsDistinct-tail}
@@ -330,7 +330,7 @@ module _ (find : ℕ → Option Row) where
       let row = row_or_empty (find slot) in (
         sym (has_permuted row.path _ _ moved) ∙ fresh slots i slot differ e,
         subst (λ rows. IsPermutation rows (with_placed order row (rows_at find sorted))) (sym (rows_more slots i slot e))
-            (IsPermutation-trans _ _ _ (IsPermutation-to_prefix _ row) (IsPermutation-trans _ _ _ (IsPermutation-cons row _ _ moved) (placed_permuted order row (rows_at find sorted)))),
+            (IsPermutation-trans _ _ _ (IsPermutation-to_front _ row) (IsPermutation-trans _ _ _ (IsPermutation-cons row _ _ moved) (placed_permuted order row (rows_at find sorted)))),
       )
 
 pub none_indexed : (order : List SortKey) (find : ℕ → Option Row) → AreIndexed order find [] []

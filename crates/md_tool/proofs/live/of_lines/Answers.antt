@@ -11,6 +11,9 @@ returns-in-Some-clause-asks g c =
     let known = simp to_z-of_z at c.out_of_range.ensures in
     ok_then _ _ (asks_misdated c.args.now c.args.offset c.args.lines.now _ _ c.in-Some.line c.in-Some.form (sym known ∙ c.in-Some.is) refl) c.line_out_of_range.result c.line_out_of_range.ensures
 
+pub run-requires-clause-timely : goal.run-requires-clause-timely
+run-requires-clause-timely g c = sym c.out_of_range.ensures ∙ c.in_default.is
+
 pub returns-clause-asks : goal.returns-clause-asks
 returns-clause-asks g c =
     let moment_fits : FitsSigned w64 c.args.now = search rules in
