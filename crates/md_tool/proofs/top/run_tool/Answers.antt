@@ -3,9 +3,11 @@ use Rattle.md_tool.proofs.top.run_tool.Goals as goal
 pub returns : goal.returns
 returns g c =
     record {
-      ends = c.run_command.ensures.ends;
-      leaves = c.run_command.ensures.leaves;
-      tells = c.run_command.ensures.tells;
-      write_fault = c.run_command.ensures.write_fault;
-      complete = λ ready none. c.run_command.ensures.complete ready none.inputs none.outputs;
+      runs = record {
+        ends = c.run_command.ensures.ends;
+        leaves = c.run_command.ensures.leaves;
+        tells = c.run_command.ensures.tells;
+        write_fault = c.run_command.ensures.write_fault;
+        complete = λ ready none. c.run_command.ensures.complete ready none.inputs none.outputs;
+      };
     }
