@@ -3,3 +3,4 @@ pub mod Reports
 pub mod Asking
 pub mod Causes
 pub mod Codes
+pub mod Runs

@@ -11,6 +11,7 @@
 mod find;
 mod live;
 mod report;
+mod running;
 mod status;
 mod tools;
 mod top;
