@@ -33,11 +33,11 @@ pub fn run_tool<R: Threads + Sync, T: Tree, S: Source, C: Clock, K: Sink, E: Sin
     // What the command does, from the outside before it to the outside after it.
     ensures runs { CommandRuns command.now
         (outside (files (T.content tree.old) (T.faults tree.old)) (bytes (S.left script.old) (S.faults script.old))
-        (shown (C.moment clock.old) (C.faults clock.old))
-        (bytes (K.taken out.old) (K.faults out.old)) (bytes (E.taken err.old) (E.faults err.old)))
+            (shown (C.moment clock.old) (C.faults clock.old))
+            (bytes (K.taken out.old) (K.faults out.old)) (bytes (E.taken err.old) (E.faults err.old)))
         (outside (files (T.content tree.new) (T.faults tree.new)) (bytes (S.left script.new) (S.faults script.new))
-        (shown (C.moment clock.new) (C.faults clock.new))
-        (bytes (K.taken out.new) (K.faults out.new)) (bytes (E.taken err.new) (E.faults err.new)))
+            (shown (C.moment clock.new) (C.faults clock.new))
+            (bytes (K.taken out.new) (K.faults out.new)) (bytes (E.taken err.new) (E.faults err.new)))
         result.status }
 {
     run_command(rt, alloc, command, tree, script, clock, out, err)
@@ -58,11 +58,11 @@ pub fn run<R: Threads + Sync, T: Tree, S: Source, C: Clock, K: Sink, E: Sink>(
     // What the words do, from the outside before it to the outside after it.
     ensures runs { Runs (texts words.now)
         (outside (files (T.content tree.old) (T.faults tree.old)) (bytes (S.left script.old) (S.faults script.old))
-        (shown (C.moment clock.old) (C.faults clock.old))
-        (bytes (K.taken out.old) (K.faults out.old)) (bytes (E.taken err.old) (E.faults err.old)))
+            (shown (C.moment clock.old) (C.faults clock.old))
+            (bytes (K.taken out.old) (K.faults out.old)) (bytes (E.taken err.old) (E.faults err.old)))
         (outside (files (T.content tree.new) (T.faults tree.new)) (bytes (S.left script.new) (S.faults script.new))
-        (shown (C.moment clock.new) (C.faults clock.new))
-        (bytes (K.taken out.new) (K.faults out.new)) (bytes (E.taken err.new) (E.faults err.new)))
+            (shown (C.moment clock.new) (C.faults clock.new))
+            (bytes (K.taken out.new) (K.faults out.new)) (bytes (E.taken err.new) (E.faults err.new)))
         result.status }
 {
     run_words(rt, alloc, words, tree, script, clock, out, err)
