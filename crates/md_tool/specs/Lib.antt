@@ -3,4 +3,3 @@ pub mod Reports
 pub mod Asking
 pub mod Causes
 pub mod Codes
-pub mod Runs

@@ -11,7 +11,6 @@
 mod find;
 mod live;
 mod report;
-mod running;
 mod status;
 mod tools;
 mod top;
