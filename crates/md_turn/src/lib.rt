@@ -1,7 +1,7 @@
 //! A turn lock round a server and the journal of all that was done to it.
 //!
 //! A [`Turn`] owns a [`Core`], a server that answers events as md_machine's machine does, and its journal. Who has a
-//! [`Pass`] may act: it waits for its turn, has one event answered, and is received the entry's place in the journal and the
+//! [`Pass`] may act: it waits for its turn, has one event answered, and is given the entry's place in the journal and the
 //! reply. Passes are split and joined, so that each thread has its own; a pass carries the acts that it may still make,
 //! the journal that it has seen and its own entries. [`Turn::close`] takes all passes and gives the server and the one
 //! journal, whose replies are the machine's.
