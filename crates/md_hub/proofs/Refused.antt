@@ -11,7 +11,7 @@ use Rattle.md_machine.specs.declared.Reply.{Reply}
 use Rattle.md_machine.specs.declared.Spec.{Spec}
 use Rattle.md_machine.specs.Answers.{shown_answer}
 use Rattle.md_machine.specs.States.{Ticket, Stamp, Phase, Gathering, Finished, Query, State, ticket_at, stamp_at, query_at, queries_of}
-use Rattle.md_machine.specs.Steps.{Outcome, Answered, step, draw, commit, commit_over, close, create, outcome_of, stop, gather, gather_in, next_part, most_hits, disable, enable, enable_in, poll, poll_in, is_due, pending}
+use Rattle.md_machine.specs.Steps.{StepResult, Answered, step, draw, commit, commit_over, close, create, outcome_of, stop, gather, gather_in, next_part, most_hits, disable, enable, enable_in, poll, poll_in, is_due, pending}
 use Rattle.md_machine.specs.Runs.{run}
 use Rattle.md_machine.proofs.Joining.{last-join, replies-join}
 use Rattle.md_machine.proofs.Lists.{by_cond}
@@ -24,11 +24,11 @@ abbrev IsMade : Reply → Type 0
 IsMade r = is_memory r ≡ false
 
 made_draw : (s : State) (path : List ℕ) → IsMade (draw s path).reply
-made_draw s path = by_cond (λ (o : Outcome). IsMade o.reply) (nat_lt s.drawn s.limits.tickets) _ _ (λ _. refl) (λ _. refl)
+made_draw s path = by_cond (λ (o : StepResult). IsMade o.reply) (nat_lt s.drawn s.limits.tickets) _ _ (λ _. refl) (λ _. refl)
 
 made_commit_over : (s : State) (t : Ticket) (change : Change) (o : Option Stamp) → IsMade (commit_over s t change o).reply
-made_commit_over s t change (Some stamp) = by_cond (λ (o : Outcome). IsMade o.reply) (nat_lt t.number stamp.ticket) _ _ (λ _. refl) (λ _. refl)
-made_commit_over s t change None = by_cond (λ (o : Outcome). IsMade o.reply) (nat_lt (length s.stamps) s.limits.paths) _ _ (λ _. refl) (λ _. refl)
+made_commit_over s t change (Some stamp) = by_cond (λ (o : StepResult). IsMade o.reply) (nat_lt t.number stamp.ticket) _ _ (λ _. refl) (λ _. refl)
+made_commit_over s t change None = by_cond (λ (o : StepResult). IsMade o.reply) (nat_lt (length s.stamps) s.limits.paths) _ _ (λ _. refl) (λ _. refl)
 
 made_commit : (s : State) (change : Change) (o : Option Ticket) → IsMade (commit s change o).reply
 made_commit s change None = refl
@@ -40,8 +40,8 @@ made_close s (Some t) = refl
 
 made_create : (s : State) (c n : ℕ) (spec : Spec) → IsMade (create s c n spec).reply
 made_create s c n spec =
-    by_cond (λ (o : Outcome). IsMade o.reply) (is_some (query_at s.queries c n)) _ _ (λ _. refl)
-    (λ _. by_cond (λ (o : Outcome). IsMade o.reply) (nat_lt (queries_of s.queries c) s.limits.queries) _ _ (λ _. refl) (λ _. refl))
+    by_cond (λ (o : StepResult). IsMade o.reply) (is_some (query_at s.queries c n)) _ _ (λ _. refl)
+    (λ _. by_cond (λ (o : StepResult). IsMade o.reply) (nat_lt (queries_of s.queries c) s.limits.queries) _ _ (λ _. refl) (λ _. refl))
 
 made_next : (q : Query) (n : ℕ) (left : List Row) (most : Option ℕ) (now : ℕ) → IsMade (next_part q n left most now).reply
 made_next q n left None now = refl

@@ -19,7 +19,7 @@ use Rattle.md_machine.specs.declared.Reply.{Reply}
 use Rattle.md_machine.specs.declared.Reply.TheVariants as reply
 use Rattle.md_machine.specs.Answers.{condition_of, answer, shown_answer, diff, notice_of}
 use Rattle.md_machine.specs.States.{Ticket, Stamp, Phase, Gathering, Finished, Query, State, opening, ticket_at, stamp_at, query_at, queries_of}
-use Rattle.md_machine.specs.Steps.{Outcome, Answered, step, commit, commit_over, close, create, outcome_of, stop, gather, gather_in, next_part, most_hits, disable, enable, enable_in, poll, poll_in, pending, is_due}
+use Rattle.md_machine.specs.Steps.{StepResult, Answered, step, commit, commit_over, close, create, outcome_of, stop, gather, gather_in, next_part, most_hits, disable, enable, enable_in, poll, poll_in, pending, is_due}
 use Rattle.md_machine.specs.Runs.{Past, grown, changed_by, past_of, tables_of, run_from, run, entries, versions, is_of, received_more, received_by, received, taken_in, held}
 use Rattle.md_machine.specs.Files.{IsNoRootDraw, DrawsNoRoot, NamesFiles, HandsOutFiles}
 use Rattle.md_machine.proofs.Lists.{by_cond, all_more}
@@ -86,7 +86,7 @@ poll_hands s q now Finished t h =
 
 -- ---- what the machine replies in a state whose tables are of files
 
-abbrev Shows : Outcome → Type 0
+abbrev Shows : StepResult → Type 0
 Shows o = HandsOutFiles o.reply
 
 -- the tables that queries speak of

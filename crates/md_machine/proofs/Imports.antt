@@ -12,7 +12,7 @@ use Rattle.md_machine.specs.declared.Event.TheVariants as event
 use Rattle.md_machine.specs.declared.Reply.{Reply}
 use Rattle.md_machine.specs.declared.Reply.TheVariants as reply
 use Rattle.md_machine.specs.States.{Ticket, Stamp, State, opening, ticket_at, stamp_at, with_stamp}
-use Rattle.md_machine.specs.Steps.{Outcome, step, commit, committed, commit_over}
+use Rattle.md_machine.specs.Steps.{StepResult, step, commit, committed, commit_over}
 use Rattle.md_machine.specs.Runs.{run_from, run}
 use Rattle.md_machine.specs.Imports.{imports, acceptances, HasRoom, imported, IsAccepted}
 use Rattle.md_machine.proofs.Lists.{all_map}
@@ -64,7 +64,7 @@ module _ (limits : Limits) (files : ℕ) (s : State) (path : PathBytes) (change 
       ap (commit with_ticket change) found ∙ fits (stamp_at s.stamps path) refl
 
   pub state_after : imported s path change ≡ (committed with_ticket next_ticket change).state
-  state_after = ap (λ (o : Outcome). (step o.state (event.Commit (s.drawn + 1) change)).state) draws ∙ ap (λ (o : Outcome). o.state) commits
+  state_after = ap (λ (o : StepResult). (step o.state (event.Commit (s.drawn + 1) change)).state) draws ∙ ap (λ (o : StepResult). o.state) commits
 
   room_after : HasRoom limits files (committed with_ticket next_ticket change).state
   room_after =
@@ -83,8 +83,8 @@ module _ (limits : Limits) (files : ℕ) (s : State) (path : PathBytes) (change 
   pub next_accepted : IsAccepted limits files s path change
   next_accepted =
       record {
-        ticket = ap (λ (o : Outcome). o.reply) draws;
-        committed = ap (λ (o : Outcome). (step o.state (event.Commit (s.drawn + 1) change)).reply) draws ∙ ap (λ (o : Outcome). o.reply) commits;
+        ticket = ap (λ (o : StepResult). o.reply) draws;
+        committed = ap (λ (o : StepResult). (step o.state (event.Commit (s.drawn + 1) change)).reply) draws ∙ ap (λ (o : StepResult). o.reply) commits;
         room = subst (HasRoom limits files) (sym state_after) room_after;
       }
 

@@ -13,7 +13,7 @@ use Rattle.md_machine.specs.declared.Event.{Event}
 use Rattle.md_machine.specs.declared.Event.TheVariants as event
 use Rattle.md_machine.specs.Answers.{shown_answer}
 use Rattle.md_machine.specs.States.{Ticket, Stamp, Phase, Gathering, Finished, Query, State, opening, ticket_at, stamp_at, with_stamp, is_query, query_at, queries_of}
-use Rattle.md_machine.specs.Steps.{Outcome, Answered, step, draw, commit, commit_over, committed, closed, close, new_query, create, outcome_of, stop, gather, gather_in, next_part, most_hits, disable, enable, enable_in, poll, poll_in, pending, is_due}
+use Rattle.md_machine.specs.Steps.{StepResult, Answered, step, draw, commit, commit_over, committed, closed, close, new_query, create, outcome_of, stop, gather, gather_in, next_part, most_hits, disable, enable, enable_in, poll, poll_in, pending, is_due}
 use Rattle.md_machine.specs.Runs.{run_from, run}
 use Rattle.md_machine.specs.Laws.{KeysAreDistinct, DisablesAreBounded, ClientsAreBounded, PendingIsWithin}
 use Rattle.md_machine.proofs.Lists.{by_cond, all_more, all_map}
@@ -82,7 +82,7 @@ module _ (limits : Limits) (s : State) (sound : AreSound limits s) (q : Query) (
 module _ (limits : Limits) (s : State) (sound : AreSound limits s) where
   draw_sound : (path : List ℕ) → AreSound limits (draw s path).state
   draw_sound path =
-      by_cond (λ (o : Outcome). AreSound limits o.state) (nat_lt s.drawn s.limits.tickets) _ _
+      by_cond (λ (o : StepResult). AreSound limits o.state) (nat_lt s.drawn s.limits.tickets) _ _
       (λ _. record { same = sound.same; newest = sound.newest; keys = sound.keys; clients = sound.clients; each = sound.each })
       (λ _. sound)
 
@@ -104,10 +104,10 @@ module _ (limits : Limits) (s : State) (sound : AreSound limits s) where
 
   commit_over_sound : (t : Ticket) (change : Change) (o : Option Stamp) → AreSound limits (commit_over s t change o).state
   commit_over_sound t change (Some stamp) =
-      by_cond (λ (o : Outcome). AreSound limits o.state) (nat_lt t.number stamp.ticket) _ _
+      by_cond (λ (o : StepResult). AreSound limits o.state) (nat_lt t.number stamp.ticket) _ _
       (λ _. closed_sound t.number) (λ _. committed_sound t change)
   commit_over_sound t change None =
-      by_cond (λ (o : Outcome). AreSound limits o.state) (nat_lt (length s.stamps) s.limits.paths) _ _
+      by_cond (λ (o : StepResult). AreSound limits o.state) (nat_lt (length s.stamps) s.limits.paths) _ _
       (λ _. committed_sound t change) (λ _. sound)
 
   commit_sound : (change : Change) (o : Option Ticket) → AreSound limits (commit s change o).state
@@ -132,8 +132,8 @@ module _ (limits : Limits) (s : State) (sound : AreSound limits s) where
 
   create_sound : (c n : ℕ) (spec : Spec) → AreSound limits (create s c n spec).state
   create_sound c n spec =
-      by_cond (λ (o : Outcome). AreSound limits o.state) (is_some (query_at s.queries c n)) _ _ (λ _. sound)
-      (λ free. by_cond (λ (o : Outcome). AreSound limits o.state) (nat_lt (queries_of s.queries c) s.limits.queries) _ _
+      by_cond (λ (o : StepResult). AreSound limits o.state) (is_some (query_at s.queries c n)) _ _ (λ _. sound)
+      (λ free. by_cond (λ (o : StepResult). AreSound limits o.state) (nat_lt (queries_of s.queries c) s.limits.queries) _ _
       (λ e.
       let new = new_query s c n spec in
       let below = ltb-true (queries_of s.queries c) s.limits.queries e in

@@ -5,9 +5,9 @@ ghost use Rattle.md_value.specs.Attrs.{Attr};
 ghost use Rattle.md_match.specs.Satisfies.{all_values, values_of, holds};
 ghost use Rattle.md_match.specs.Ready.{is_met, values_at, check_holds};
 
-use crate::local::Local;
 use crate::wanted::Wanted;
 use md_expr_tree::{Literal, Op, Subject, Test};
+use md_time::LocalTime;
 use md_value::{Attrs, Copied, Name, Value};
 use std::alloc::{AllocError, Global};
 
@@ -128,7 +128,7 @@ fn comparison(
     subject: &Subject,
     op: Op,
     literal: &Literal,
-    local: &Local,
+    local: &LocalTime,
 ) -> Result<Check, AllocError>
     ensures { IfOk result (λ c. (attrs : List Attr) → check_holds c attrs ≡ holds local.now.moment local.now.offset (Test.Compare subject.now op literal.now) attrs) }
 {
@@ -150,7 +150,7 @@ fn range(
     name: &Name,
     least: &Literal,
     greatest: &Literal,
-    local: &Local,
+    local: &LocalTime,
 ) -> Result<Check, AllocError>
     ensures { IfOk result (λ c. (attrs : List Attr) → check_holds c attrs ≡ holds local.now.moment local.now.offset (Test.Range name.now least.now greatest.now) attrs) }
 {
@@ -166,7 +166,7 @@ fn range(
 
 impl Check {
     /// The comparison of the test, with forms of time resolved from the local time.
-    pub fn of(alloc: Global, test: &Test, local: &Local) -> Result<Check, AllocError>
+    pub fn of(alloc: Global, test: &Test, local: &LocalTime) -> Result<Check, AllocError>
         ensures { IfOk result (λ c. (attrs : List Attr) → check_holds c attrs ≡ holds local.now.moment local.now.offset test.now attrs) }
     {
         match test {

@@ -6,9 +6,9 @@ ghost use Rattle.md_match.specs.Conditions.{passes};
 ghost use Rattle.md_match.specs.declared.filter.FilterError.TheVariants.{Memory};
 
 use crate::forms::first_out_of_range;
-use crate::local::Local;
 use crate::ready::Ready;
 use md_expr_tree::Expr;
+use md_time::LocalTime;
 use md_value::{Copied, Path};
 use md_world::Row;
 use std::alloc::{AllocError, Global};
@@ -19,7 +19,7 @@ use std::marker::Model;
 #[derive(Drop)]
 pub struct Filter {
     expr: Expr,
-    local: Local,
+    local: LocalTime,
     scope: Path,
     /// The expression with its keys made and its moments resolved.
     ready: Ready,
@@ -91,7 +91,7 @@ impl Filter {
     ) -> Result<Filter, AllocError>
         ensures { IfOk result (λ f. f ≡ record { expr = expr.now; moment = now; offset = offset; scope = scope.now }) }
     {
-        let local = Local {
+        let local = LocalTime {
             moment: now,
             offset,
         };

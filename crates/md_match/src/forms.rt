@@ -4,9 +4,8 @@ ghost use Rattle.std.specs.Option.{option_map};
 ghost use Rattle.md_time.specs.Moments.{moment_of};
 ghost use Rattle.md_match.specs.Forms.{forms_of_literal, forms_of_test, joined, forms, first_out_of_range, capped, searched};
 
-use crate::local::Local;
 use md_expr_tree::{Expr, Literal, Test};
-use md_time::Form;
+use md_time::{Form, LocalTime};
 
 /// How far a search for a form that is out of range has come. Numbers stop at the greatest one.
 #[derive(Clone, Copy, Debug, Drop)]
@@ -17,13 +16,13 @@ pub enum Searched {
     InRange(u32),
 }
 
-fn is_out_of_range(form: &Form, local: &Local) -> bool
+fn is_out_of_range(form: &Form, local: &LocalTime) -> bool
     ensures { result ≡ is_none (moment_of form.now local.now.moment local.now.offset) }
 {
     form.moment(local.moment, local.offset).is_err()
 }
 
-fn in_form(form: &Form, local: &Local, seen: u32) -> Searched
+fn in_form(form: &Form, local: &LocalTime, seen: u32) -> Searched
     ensures { result ≡ searched local.now.moment local.now.offset seen (form.now ∷ []) }
 {
     let number = seen.saturating_add(1);
@@ -34,7 +33,7 @@ fn in_form(form: &Form, local: &Local, seen: u32) -> Searched
     }
 }
 
-fn in_literal(literal: &Literal, local: &Local, seen: u32) -> Searched
+fn in_literal(literal: &Literal, local: &LocalTime, seen: u32) -> Searched
     ensures { result ≡ searched local.now.moment local.now.offset seen (forms_of_literal literal.now) }
 {
     match literal {
@@ -44,7 +43,7 @@ fn in_literal(literal: &Literal, local: &Local, seen: u32) -> Searched
 }
 
 #[tactic(auto, using(crate::proofs::Times::search_append))]
-fn in_range(least: &Literal, greatest: &Literal, local: &Local, seen: u32) -> Searched
+fn in_range(least: &Literal, greatest: &Literal, local: &LocalTime, seen: u32) -> Searched
     ensures { result ≡ searched local.now.moment local.now.offset seen (forms_of_literal least.now ++ forms_of_literal greatest.now) }
 {
     match in_literal(least, local, seen) {
@@ -53,7 +52,7 @@ fn in_range(least: &Literal, greatest: &Literal, local: &Local, seen: u32) -> Se
     }
 }
 
-fn in_test(test: &Test, local: &Local, seen: u32) -> Searched
+fn in_test(test: &Test, local: &LocalTime, seen: u32) -> Searched
     ensures { result ≡ searched local.now.moment local.now.offset seen (forms_of_test test.now) }
 {
     match test {
@@ -67,7 +66,7 @@ fn in_test(test: &Test, local: &Local, seen: u32) -> Searched
 }
 
 #[cycle(search)]
-fn in_all(list: &[Expr], local: &Local, seen: u32) -> Searched
+fn in_all(list: &[Expr], local: &LocalTime, seen: u32) -> Searched
     ensures { result ≡ searched local.now.moment local.now.offset seen (joined (map forms list.now)) }
 {
     let mut seen = seen;
@@ -81,7 +80,7 @@ fn in_all(list: &[Expr], local: &Local, seen: u32) -> Searched
 }
 
 #[cycle(search)]
-fn in_expr(expr: &Expr, local: &Local, seen: u32) -> Searched
+fn in_expr(expr: &Expr, local: &LocalTime, seen: u32) -> Searched
     ensures { result ≡ searched local.now.moment local.now.offset seen (forms expr.now) }
 {
     match expr {
@@ -92,7 +91,7 @@ fn in_expr(expr: &Expr, local: &Local, seen: u32) -> Searched
     }
 }
 
-fn first_out(expr: &Expr, local: &Local) -> Option<u32>
+fn first_out(expr: &Expr, local: &LocalTime) -> Option<u32>
     ensures { result ≡ option_map capped (first_out_of_range local.now.moment local.now.offset expr.now) }
 {
     match in_expr(expr, local, 0) {
@@ -107,7 +106,7 @@ fn first_out(expr: &Expr, local: &Local) -> Option<u32>
 pub fn first_out_of_range(expr: &Expr, now: i64, offset: i32) -> Option<u32>
     ensures { result ≡ option_map capped (first_out_of_range now offset expr.now) }
 {
-    let local = Local {
+    let local = LocalTime {
         moment: now,
         offset,
     };

@@ -5,7 +5,6 @@ mod check;
 mod filter;
 mod forms;
 pub mod laws;
-mod local;
 mod ready;
 mod wanted;
 

@@ -6,8 +6,8 @@ ghost use Rattle.md_match.specs.Satisfies.{satisfies};
 ghost use Rattle.md_match.specs.Ready.{is_satisfied};
 
 use crate::check::Check;
-use crate::local::Local;
 use md_expr_tree::Expr;
+use md_time::LocalTime;
 use md_value::Attrs;
 use sqlite_items::{Boxed, Items};
 use std::alloc::{AllocError, Global};
@@ -26,7 +26,7 @@ pub enum Ready {
 }
 
 #[cycle(made)]
-fn all_of(alloc: Global, list: &[Expr], local: &Local) -> Result<Items<Ready>, AllocError>
+fn all_of(alloc: Global, list: &[Expr], local: &LocalTime) -> Result<Items<Ready>, AllocError>
     ensures { IfOk result (λ rs. (attrs : List Attr) → map (λ r. is_satisfied r attrs) rs ≡ map (λ e. satisfies local.now.moment local.now.offset e attrs) list.now) }
 {
     let mut all = Items::new(alloc);
@@ -63,7 +63,7 @@ fn some_satisfied(alloc: Global, list: &[Ready], attrs: &Attrs) -> Result<bool, 
 impl Ready {
     /// The expression, with its forms of time resolved from the local time.
     #[cycle(made)]
-    pub fn of(alloc: Global, expr: &Expr, local: &Local) -> Result<Ready, AllocError>
+    pub fn of(alloc: Global, expr: &Expr, local: &LocalTime) -> Result<Ready, AllocError>
         ensures { IfOk result (λ r. (attrs : List Attr) → is_satisfied r attrs ≡ satisfies local.now.moment local.now.offset expr.now attrs) }
     {
         match expr {

@@ -6,10 +6,9 @@ ghost use Rattle.md_match.specs.Meets.{words, number, present};
 ghost use Rattle.md_match.specs.Meets.{resolved, stands, starred, parts, flag_number, meets};
 ghost use Rattle.md_match.specs.Ready.{is_met};
 
-use crate::local::Local;
 use md_expr_tree::{Literal, Op};
 use md_text::{Key, Pattern};
-use md_time::Form;
+use md_time::{Form, LocalTime};
 use md_value::{Text, Value};
 use std::alloc::{AllocError, Global};
 use std::cmp::Ordering;
@@ -150,7 +149,7 @@ fn of_words(
     }
 }
 
-fn of_time(op: Op, form: &Form, local: &Local) -> Wanted
+fn of_time(op: Op, form: &Form, local: &LocalTime) -> Wanted
     ensures { (v : AnyValue) → is_met result v ≡ meets op v (resolved local.now.moment local.now.offset (Literal.Time form.now)) }
 {
     match form.moment(local.moment, local.offset) {
@@ -173,7 +172,12 @@ fn of_present(op: Op) -> Wanted
 
 impl Wanted {
     /// What a value has to be to meet the literal.
-    pub fn of(alloc: Global, op: Op, literal: &Literal, local: &Local) -> Result<Wanted, AllocError>
+    pub fn of(
+        alloc: Global,
+        op: Op,
+        literal: &Literal,
+        local: &LocalTime,
+    ) -> Result<Wanted, AllocError>
         ensures { IfOk result (λ w. (v : AnyValue) → is_met w v ≡ meets op v (resolved local.now.moment local.now.offset literal.now)) }
     {
         match literal {

@@ -12,7 +12,7 @@ use Rattle.md_machine.specs.declared.Reply.{Reply}
 use Rattle.md_machine.specs.declared.Reply.TheVariants as reply
 use Rattle.md_machine.specs.Answers.{shown_answer}
 use Rattle.md_machine.specs.States.{Phase, Gathering, Finished, Query, State, query_at, queries_of, ticket_at, stamp_at}
-use Rattle.md_machine.specs.Steps.{Outcome, Answered, step, outcome_of, create, stop, gather, gather_in, next_part, most_hits, disable, enable, enable_in, poll, poll_in, pending, is_due}
+use Rattle.md_machine.specs.Steps.{StepResult, Answered, step, outcome_of, create, stop, gather, gather_in, next_part, most_hits, disable, enable, enable_in, poll, poll_in, pending, is_due}
 use Rattle.md_machine.proofs.Lists.{by_cond}
 use Rattle.md_merge.specs.Jobs.{Job}
 use Rattle.md_merge.proofs.Drawing.{HasRoom}
@@ -48,7 +48,7 @@ poll_room s q now Finished =
     (λ _. by_cond Answers (is_due q.spec.batch (items_of (pending s q)) (now - q.delivered)) _ _ (λ _. refl) (λ _. refl))
 
 -- the reply finds room, and only the queries are others
-pub record Keeps (s : State) (o : Outcome) : Type 0 where
+pub record Keeps (s : State) (o : StepResult) : Type 0 where
   pub limits : o.state.limits ≡ s.limits
   pub table : o.state.table ≡ s.table
   pub drawn : o.state.drawn ≡ s.drawn
@@ -65,7 +65,7 @@ is_question _ = true
 
 module _ (s : State) where
   -- an outcome that leaves all but the queries
-  abbrev Same : Reply → List Query → Outcome
+  abbrev Same : Reply → List Query → StepResult
   Same r queries = record { reply = r; state = record s { queries = queries } }
 
   same : (r : Reply) (queries : List Query) → HasRoom r → Keeps s (Same r queries)

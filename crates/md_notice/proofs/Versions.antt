@@ -20,7 +20,7 @@ use Rattle.md_machine.specs.declared.Reply.{Reply}
 use Rattle.md_machine.specs.declared.Reply.TheVariants as reply
 use Rattle.md_machine.specs.Answers.{shown_answer}
 use Rattle.md_machine.specs.States.{Ticket, Stamp, Phase, Gathering, Finished, Query, State, opening, ticket_at, stamp_at, is_query, query_at, with_query, queries_of}
-use Rattle.md_machine.specs.Steps.{Outcome, Answered, step, draw, commit, commit_over, close, create, new_query, outcome_of, stop, gather, gather_in, next_part, most_hits, disable, enable, enable_in, poll, poll_in, pending, is_due}
+use Rattle.md_machine.specs.Steps.{StepResult, Answered, step, draw, commit, commit_over, close, create, new_query, outcome_of, stop, gather, gather_in, next_part, most_hits, disable, enable, enable_in, poll, poll_in, pending, is_due}
 use Rattle.md_machine.specs.Runs.{run_from, run, entries, is_of, received_more, received_by, received}
 use Rattle.md_machine.specs.Laws.{IsLive, received_to}
 use Rattle.md_machine.proofs.Lists.{by_cond}
@@ -129,7 +129,7 @@ or_none None = refl
 or_none (Some x) = refl
 
 module _ (received_so : Received) (s : State) (at : AreOfBase received_so s) where
-  abbrev After : Event → Outcome → Type 0
+  abbrev After : Event → StepResult → Type 0
   After e o = AreOfBase (received_then received_so (e, o.reply)) o.state
 
   stays : (e : Event) (r : Reply) → IsStill r → After e (record { reply = r; state = s })
@@ -260,8 +260,8 @@ module _ (limits : Limits) (events : List Event) where
     goes_from : (e : Event) → is_of client number e ≡ true → GoesFrom now_spoken (step (run limits events).last e).reply
     goes_from (event.Create c n spec) of =
         let s = (run limits events).last in
-        by_cond (λ (o : Outcome). GoesFrom now_spoken o.reply) (is_some (query_at s.queries c n)) _ _ (λ _. tt)
-        (λ _. by_cond (λ (o : Outcome). GoesFrom now_spoken o.reply) (nat_lt (queries_of s.queries c) s.limits.queries) _ _ (λ _. tt) (λ _. tt))
+        by_cond (λ (o : StepResult). GoesFrom now_spoken o.reply) (is_some (query_at s.queries c n)) _ _ (λ _. tt)
+        (λ _. by_cond (λ (o : StepResult). GoesFrom now_spoken o.reply) (nat_lt (queries_of s.queries c) s.limits.queries) _ _ (λ _. tt) (λ _. tt))
     goes_from (event.Gather c n now) of = answers_from c n of (λ q. gather q now) (λ q. gather_moves (run limits events).last q now q.phase) _ refl
     goes_from (event.Disable c n) of = answers_from c n of (disable (run limits events).last.limits) (λ q. disable_moves (run limits events).last q) _ refl
     goes_from (event.Enable c n now) of = answers_from c n of (λ q. enable (run limits events).last q now) (λ q. enable_moves (run limits events).last q now q.disables q.phase) _ refl

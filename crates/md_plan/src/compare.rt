@@ -8,12 +8,11 @@ ghost use Rattle.md_match.specs.Candidates.{finds, is_point, narrows};
 ghost use Rattle.md_index.specs.declared.between.Mark.TheVariants.{Text as text_mark};
 ghost use Rattle.md_plan.specs.Edges.{low_edge, high_edge, probe_at, probe_of, point_of, probe_between};
 
-use crate::local::Local;
 use md_expr_tree::{Literal, Op, Subject, Test};
 use md_index::{Edge, Mark, Probe};
 use md_match::starred;
 use md_text::Key;
-use md_time::Form;
+use md_time::{Form, LocalTime};
 use md_value::{Copied, Name, Text};
 use md_world::TEXT_CONTENT;
 use std::alloc::{AllocError, Global};
@@ -141,7 +140,7 @@ fn of_time(
     name: &Name,
     op: Op,
     form: &Form,
-    local: &Local,
+    local: &LocalTime,
 ) -> Result<Option<Probe>, AllocError>
     ensures { IfOk result (λ probe. probe ≡ probe_of name.now op (resolved local.now.moment local.now.offset (Literal.Time form.now))) }
 {
@@ -170,7 +169,7 @@ pub fn probe_of(
     name: &Name,
     op: Op,
     literal: &Literal,
-    local: &Local,
+    local: &LocalTime,
 ) -> Result<Option<Probe>, AllocError>
     ensures { IfOk result (λ probe. probe ≡ probe_of name.now op (resolved local.now.moment local.now.offset literal.now)) }
 {
@@ -186,7 +185,7 @@ pub fn probe_of(
     }
 }
 
-fn point_of(literal: &Literal, local: &Local) -> Option<Mark>
+fn point_of(literal: &Literal, local: &LocalTime) -> Option<Mark>
     ensures { result ≡ point_of (resolved local.now.moment local.now.offset literal.now) }
 {
     match literal {
@@ -205,7 +204,7 @@ pub fn probe_between(
     name: &Name,
     least: &Literal,
     greatest: &Literal,
-    local: &Local,
+    local: &LocalTime,
 ) -> Result<Option<Probe>, AllocError>
     ensures { IfOk result (λ probe. probe ≡ probe_between name.now (point_of (resolved local.now.moment local.now.offset least.now)) (point_of (resolved local.now.moment local.now.offset greatest.now))) }
 {

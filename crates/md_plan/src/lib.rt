@@ -8,7 +8,6 @@
 mod compare;
 mod find;
 pub mod laws;
-mod local;
 mod places;
 mod plan;
 

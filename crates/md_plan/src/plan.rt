@@ -4,10 +4,10 @@ ghost use Rattle.md_match.specs.Candidates.{RowSet, narrows, candidate};
 ghost use Rattle.md_plan.specs.Plans.{plan_set, some_set};
 
 use crate::compare::{narrows, probe_between, probe_of};
-use crate::local::Local;
 use md_expr_tree::{Expr, Literal, Op, Subject, Test};
 use md_index::Probe;
 use md_match::Filter;
+use md_time::LocalTime;
 use md_value::Name;
 use sqlite_items::Items;
 use std::alloc::{AllocError, Global};
@@ -41,7 +41,7 @@ fn of_comparison(
     name: &Name,
     op: Op,
     literal: &Literal,
-    local: &Local,
+    local: &LocalTime,
 ) -> Result<Plan, AllocError>
     requires { narrows (Test.Compare (Subject.Named name.now) op literal.now) ≡ true }
     ensures { IfOk result (λ plan. (size : RowSet → ℕ) → plan_set size plan ≡ candidate size local.now.moment local.now.offset (Expr.Test (Test.Compare (Subject.Named name.now) op literal.now))) }
@@ -56,7 +56,7 @@ fn of_range(
     name: &Name,
     least: &Literal,
     greatest: &Literal,
-    local: &Local,
+    local: &LocalTime,
 ) -> Result<Plan, AllocError>
     requires { narrows (Test.Range name.now least.now greatest.now) ≡ true }
     ensures { IfOk result (λ plan. (size : RowSet → ℕ) → plan_set size plan ≡ candidate size local.now.moment local.now.offset (Expr.Test (Test.Range name.now least.now greatest.now))) }
@@ -66,7 +66,7 @@ fn of_range(
 }
 
 // All rows, for a comparison that does not narrow.
-fn of_other(test: &Test, local: &Local) -> Plan
+fn of_other(test: &Test, local: &LocalTime) -> Plan
     requires { narrows test.now ≡ false }
     ensures { (size : RowSet → ℕ) → plan_set size result ≡ candidate size local.now.moment local.now.offset (Expr.Test test.now) }
 {
@@ -75,7 +75,7 @@ fn of_other(test: &Test, local: &Local) -> Plan
     Plan::All
 }
 
-fn of_narrow(alloc: Global, test: &Test, local: &Local) -> Result<Plan, AllocError>
+fn of_narrow(alloc: Global, test: &Test, local: &LocalTime) -> Result<Plan, AllocError>
     requires { narrows test.now ≡ true }
     ensures { IfOk result (λ plan. (size : RowSet → ℕ) → plan_set size plan ≡ candidate size local.now.moment local.now.offset (Expr.Test test.now)) }
 {
@@ -97,7 +97,7 @@ fn of_narrow(alloc: Global, test: &Test, local: &Local) -> Result<Plan, AllocErr
     }
 }
 
-fn of_test(alloc: Global, test: &Test, local: &Local) -> Result<Plan, AllocError>
+fn of_test(alloc: Global, test: &Test, local: &LocalTime) -> Result<Plan, AllocError>
     ensures { IfOk result (λ plan. (size : RowSet → ℕ) → plan_set size plan ≡ candidate size local.now.moment local.now.offset (Expr.Test test.now)) }
 {
     if !narrows(test) {
@@ -107,7 +107,7 @@ fn of_test(alloc: Global, test: &Test, local: &Local) -> Result<Plan, AllocError
 }
 
 #[cycle(made)]
-fn all_of(alloc: Global, list: &[Expr], local: &Local) -> Result<Items<Plan>, AllocError>
+fn all_of(alloc: Global, list: &[Expr], local: &LocalTime) -> Result<Items<Plan>, AllocError>
     ensures { IfOk result (λ plans. (size : RowSet → ℕ) → map (plan_set size) plans ≡ map (candidate size local.now.moment local.now.offset) list.now) }
 {
     let mut all = Items::new(alloc);
@@ -118,7 +118,7 @@ fn all_of(alloc: Global, list: &[Expr], local: &Local) -> Result<Items<Plan>, Al
 }
 
 #[cycle(made)]
-fn of_expr(alloc: Global, expr: &Expr, local: &Local) -> Result<Plan, AllocError>
+fn of_expr(alloc: Global, expr: &Expr, local: &LocalTime) -> Result<Plan, AllocError>
     ensures { IfOk result (λ plan. (size : RowSet → ℕ) → plan_set size plan ≡ candidate size local.now.moment local.now.offset expr.now) }
 {
     match expr {
@@ -133,7 +133,7 @@ fn of_expr(alloc: Global, expr: &Expr, local: &Local) -> Result<Plan, AllocError
 pub fn plan_of(alloc: Global, filter: &Filter) -> Result<Plan, AllocError>
     ensures { IfOk result (λ plan. (size : RowSet → ℕ) → plan_set size plan ≡ candidate size filter.now.moment filter.now.offset filter.now.expr) }
 {
-    let local = Local {
+    let local = LocalTime {
         moment: filter.now(),
         offset: filter.offset(),
     };

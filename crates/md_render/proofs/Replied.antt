@@ -9,7 +9,7 @@ use Rattle.md_machine.specs.declared.Event.{Event}
 use Rattle.md_machine.specs.declared.Event.TheVariants as event
 use Rattle.md_machine.specs.Answers.{shown_answer}
 use Rattle.md_machine.specs.States.{Ticket, Stamp, Phase, Gathering, Finished, Query, State, ticket_at, stamp_at, query_at, queries_of}
-use Rattle.md_machine.specs.Steps.{Outcome, Answered, step, commit, commit_over, close, outcome_of, stop, gather, gather_in, next_part, most_hits, disable, enable, enable_in, poll, poll_in, pending, is_due}
+use Rattle.md_machine.specs.Steps.{StepResult, Answered, step, commit, commit_over, close, outcome_of, stop, gather, gather_in, next_part, most_hits, disable, enable, enable_in, poll, poll_in, pending, is_due}
 use Rattle.md_machine.proofs.Lists.{by_cond}
 use Rattle.md_render.specs.Texts.{answers_commit, answers_close, answers_draw, answers_query, has_text}
 
@@ -17,7 +17,7 @@ use Rattle.md_render.specs.Texts.{answers_commit, answers_close, answers_draw, a
 abbrev Replies : Answered → Type 0
 Replies a = answers_query a.reply ≡ true
 
-abbrev Answers : Outcome → Type 0
+abbrev Answers : StepResult → Type 0
 Answers o = answers_query o.reply ≡ true
 
 next_replies : (q : Query) (given now : ℕ) (left : List Row) (most : Option ℕ) → Replies (next_part q given left most now)
@@ -54,8 +54,8 @@ commit_answers s change None = refl
 commit_answers s change (Some t) = over (stamp_at s.stamps t.path)
   where
     over : (stamp : Option Stamp) → answers_commit (commit_over s t change stamp).reply ≡ true
-    over (Some stamp) = by_cond (λ (o : Outcome). answers_commit o.reply ≡ true) (nat_lt t.number stamp.ticket) _ _ (λ _. refl) (λ _. refl)
-    over None = by_cond (λ (o : Outcome). answers_commit o.reply ≡ true) (nat_lt (length s.stamps) s.limits.paths) _ _ (λ _. refl) (λ _. refl)
+    over (Some stamp) = by_cond (λ (o : StepResult). answers_commit o.reply ≡ true) (nat_lt t.number stamp.ticket) _ _ (λ _. refl) (λ _. refl)
+    over None = by_cond (λ (o : StepResult). answers_commit o.reply ≡ true) (nat_lt (length s.stamps) s.limits.paths) _ _ (λ _. refl) (λ _. refl)
 
 close_answers : (s : State) (o : Option Ticket) → answers_close (close s o).reply ≡ true
 close_answers s None = refl
@@ -67,7 +67,7 @@ stop_answers s c n (Some q) = refl
 
 -- Every event with the machine's reply has a text.
 pub step_has_text : (s : State) (e : Event) → has_text e (step s e).reply ≡ true
-step_has_text s (event.Draw path) = by_cond (λ (o : Outcome). answers_draw o.reply ≡ true) (nat_lt s.drawn s.limits.tickets) _ _ (λ _. refl) (λ _. refl)
+step_has_text s (event.Draw path) = by_cond (λ (o : StepResult). answers_draw o.reply ≡ true) (nat_lt s.drawn s.limits.tickets) _ _ (λ _. refl) (λ _. refl)
 step_has_text s (event.Commit number change) = commit_answers s change (ticket_at s.tickets number)
 step_has_text s (event.Close number) = close_answers s (ticket_at s.tickets number)
 step_has_text s (event.Create c n spec) =

@@ -6,10 +6,12 @@ mod form;
 mod iso;
 mod iso_moment;
 mod iso_text;
+mod local_time;
 mod print;
 mod range;
 
 pub use form::{Form, OutOfRange};
 pub use iso_moment::{NotDate, read_moment};
 pub use iso_text::IsoText;
+pub use local_time::LocalTime;
 pub use print::print_moment;

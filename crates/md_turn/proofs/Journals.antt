@@ -9,7 +9,7 @@ use lib.ListN.{get_elem?}
 use Rattle.atomic_table.proofs.Lists.{at_longer}
 use Rattle.md_machine.specs.declared.Event.{Event}
 use Rattle.md_machine.specs.States.{State as ServerState}
-use Rattle.md_machine.specs.Steps.{Outcome}
+use Rattle.md_machine.specs.Steps.{StepResult}
 use Rattle.md_turn.specs.declared.journal.JournalEntry.{JournalEntry}
 use Rattle.md_turn.specs.Journal.{after, Legal, IsPrefix, Has, total_of, times, once_below, Apart, longer, shorter, put, merge, Rises}
 
@@ -79,7 +79,7 @@ module _ {A : Type 0} where
   at_end [] a = refl
   at_end (x ∷ xs) a = at_end xs a
 
-module _ (machine : ServerState → Event → Outcome) where
+module _ (machine : ServerState → Event → StepResult) where
   pub after_append : (s : ServerState) (xs ys : List JournalEntry) → after machine s (xs ++ ys) ≡ after machine (after machine s xs) ys
   after_append s [] ys = refl
   after_append s (x ∷ xs) ys = after_append (machine s x.event).state xs ys

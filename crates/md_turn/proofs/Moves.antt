@@ -9,7 +9,7 @@ use Rattle.atomic_table.proofs.Lists.{at_set, at_snoc, set_again, set_else, set_
 use Rattle.atomic_table.specs.Table.{State, Me, Step, Act, keeps, takes, gives, Allows, Splits, Joins, Valid, carried_after, homes_after, put_back, rest, Seen}
 use Rattle.md_machine.specs.declared.Event.{Event}
 use Rattle.md_machine.specs.States.{State as ServerState}
-use Rattle.md_machine.specs.Steps.{Outcome}
+use Rattle.md_machine.specs.Steps.{StepResult}
 use Rattle.md_turn.specs.declared.journal.JournalEntry.{JournalEntry}
 use Rattle.md_turn.specs.declared.rule.View.{View}
 use Rattle.md_turn.specs.Journal.{after, Legal, IsPrefix, Has, total_of, times, once_below, longer}
@@ -94,7 +94,7 @@ fine_later t t' n n' js js' u le more waits holds f = record {
   own = f.own;
 }
 
-module _ (machine : ServerState → Event → Outcome) {H : Type 0} (journal_of : H → List JournalEntry) (state_of : H → ServerState) (opening : ServerState) where
+module _ (machine : ServerState → Event → StepResult) {H : Type 0} (journal_of : H → List JournalEntry) (state_of : H → ServerState) (opening : ServerState) where
   pub draws : (slots id : ℕ) (me : Me (Option H) View) (st : Step (Option H)) → me.0.waits ≡ false → me.0.holds ≡ false → made me.0 < me.0.share → Allows (Kept machine journal_of state_of opening) slots id me 0 (λ n. (n + 1) % 18446744073709551616) (Draws st me)
   draws slots id me st waits holds room s h homes at word =
       let v = me.0 in

@@ -5,7 +5,7 @@ use lib.ListN.{get_elem?}
 use Rattle.md_machine.specs.declared.Event.{Event}
 use Rattle.md_machine.specs.declared.Reply.{Reply}
 use Rattle.md_machine.specs.States.{State as ServerState}
-use Rattle.md_machine.specs.Steps.{Outcome}
+use Rattle.md_machine.specs.Steps.{StepResult}
 use Rattle.md_machine.specs.Runs.{Run, run_from}
 use Rattle.md_turn.specs.declared.journal.JournalEntry.{JournalEntry}
 
@@ -22,7 +22,7 @@ pub record IsJournal (opening : ServerState) (js : List JournalEntry) : Type 0 w
   pub replies : map (λ (e : JournalEntry). e.reply) js ≡ (run_of opening js).replies
 
 -- the same by entries, for any machine; its steps stay closed in proofs
-module _ (machine : ServerState → Event → Outcome) where
+module _ (machine : ServerState → Event → StepResult) where
   -- the state after a journal
   abbrev pub after : ServerState → List JournalEntry → ServerState
   after s [] = s

@@ -5,13 +5,13 @@ use lib.ListN.{get_elem?}
 use Rattle.atomic_table.specs.Table.{State}
 use Rattle.md_machine.specs.declared.Event.{Event}
 use Rattle.md_machine.specs.States.{State as ServerState}
-use Rattle.md_machine.specs.Steps.{Outcome}
+use Rattle.md_machine.specs.Steps.{StepResult}
 use Rattle.md_turn.specs.declared.journal.JournalEntry.{JournalEntry}
 use Rattle.md_turn.specs.declared.rule.View.{View}
 use Rattle.md_turn.specs.Journal.{Legal, IsPrefix, Has, total_of, times, once_below}
 use Rattle.md_turn.specs.Turns.{whole_share, waiting, acts, Queued, Follows}
 
-module _ (machine : ServerState → Event → Outcome) {H : Type 0} (journal_of : H → List JournalEntry) (state_of : H → ServerState) (opening : ServerState) where
+module _ (machine : ServerState → Event → StepResult) {H : Type 0} (journal_of : H → List JournalEntry) (state_of : H → ServerState) (opening : ServerState) where
   pub record Listed (s : State (Option H) View) : Type 0 where
     pub ticket : ℕ
     pub serving : ℕ

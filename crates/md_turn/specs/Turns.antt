@@ -6,7 +6,7 @@ use lib.ListN.{get_elem?}
 use Rattle.atomic_table.specs.Table.{State, Me, Step}
 use Rattle.md_machine.specs.declared.Event.{Event}
 use Rattle.md_machine.specs.States.{State as ServerState}
-use Rattle.md_machine.specs.Steps.{Outcome}
+use Rattle.md_machine.specs.Steps.{StepResult}
 use Rattle.md_turn.specs.declared.journal.JournalEntry.{JournalEntry}
 use Rattle.md_turn.specs.declared.rule.View.{View}
 use Rattle.md_turn.specs.Journal.{after, Legal, IsPrefix, Has, total_of, times, once_below, Apart, longer, shorter, merge}
@@ -84,7 +84,7 @@ module _ {H : Type 0} where
   abbrev pub Leaves : (H → List JournalEntry) → Step (Option H) → Me (Option H) View → ℕ → Me (Option H) View → Type 0
   Leaves journal_of st v found w = (h : H) (e : JournalEntry) → v.1 ≡ (0, Some h) ∷ [] → journal_of h ≡ v.0.seen ++ e ∷ [] → w ≡ (resting v.0.share (v.0.seen ++ e ∷ []) v.0.compared (v.0.own ++ e ∷ []) v.0.refused, [])
 
-module _ (machine : ServerState → Event → Outcome) {H : Type 0} (journal_of : H → List JournalEntry) (state_of : H → ServerState) (opening : ServerState) where
+module _ (machine : ServerState → Event → StepResult) {H : Type 0} (journal_of : H → List JournalEntry) (state_of : H → ServerState) (opening : ServerState) where
   -- the slot's value has this journal, and the state after it
   abbrev pub Follows : List JournalEntry → H → Type 0
   Follows journal h = (journal_of h ≡ journal) × (state_of h ≡ after machine opening journal)
