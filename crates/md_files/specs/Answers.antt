@@ -1,5 +1,5 @@
 -- What a tree answers where it is asked for a file, and how its count of faults stands before and after.
-use Rattle.std.specs.Prelude.{◌≡◌, ℕ, ◌+◌, ◌-◌, ◌^◌, ◌≤◌, min, ℤ, Bool, true, false, List, [], ◌∷◌, length, count_by, IfSome, Option, Some, None, Result, Ok, Err}
+use Rattle.std.specs.Prelude.{◌≡◌, ℕ, ◌+◌, ◌-◌, ◌^◌, ◌≤◌, min, ℤ, Bool, true, false, List, [], ◌∷◌, ◌++◌, length, count_by, IfSome, Option, Some, None, Result, Ok, Err}
 use Rattle.md_value.specs.Values.{PathBytes, IsMoment}
 use Rattle.md_value.specs.Attrs.{Attr}
 use Rattle.md_value.specs.declared.fault.Fault.{Fault}
@@ -62,6 +62,14 @@ abbrev pub InTurn : {A B : Type 0} → (ℕ → ℕ → A → B → Type 0) → 
 InTurn Asks before now [] [] = now ≡ before
 InTurn Asks before now (x ∷ xs) (y ∷ ys) = (between : ℕ) × Asks before between x y × InTurn Asks between now xs ys
 InTurn Asks before now _ _ = ⊥
+
+-- askings in turn of some of the first of a list, or of all, and of no others
+pub record InTurnSoFar {A B : Type 0} (Asks : ℕ → ℕ → A → B → Type 0) (before now : ℕ) (xs : List A) : Type 0 where
+  pub asked : List A
+  pub rest : List A
+  pub whole : xs ≡ asked ++ rest
+  pub answers : List B
+  pub in_turn : InTurn Asks before now asked answers
 
 -- the answers to the askings of files by their paths
 abbrev pub AreAsked : Option Content → ℕ → ℕ → List PathBytes → List FileAnswer → Type 0

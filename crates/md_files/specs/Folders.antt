@@ -1,9 +1,9 @@
 -- What a tree answers where it is asked for a file or, where there is none, for the files below a folder.
-use Rattle.std.specs.Prelude.{◌≡◌, ℕ, ◌+◌, true, false, List, [], ◌∷◌, AllPairs, IfSome, Option, IsPermutation}
+use Rattle.std.specs.Prelude.{◌≡◌, ℕ, ◌+◌, true, false, List, [], ◌∷◌, ◌++◌, AllPairs, IfSome, Option, IsPermutation}
 use Rattle.md_value.specs.Values.{PathBytes, is_before}
 use Rattle.md_source.specs.Tree.{Content, IsListing, has_folder, entries_below}
 use Rattle.md_source.specs.declared.tree.Entry.{Entry}
-use Rattle.md_files.specs.Answers.{FileAnswer, Fails, IsEntry, HasNoFile, IsRead, InTurn, failures}
+use Rattle.md_files.specs.Answers.{FileAnswer, Fails, IsEntry, HasNoFile, IsRead, InTurn, InTurnSoFar, failures}
 
 -- what a path stands for: a file with the answer to its asking, or a file that could not be found; where there is no file,
 -- the files of a folder with the answers to their askings, a folder that could not be listed, or nothing
@@ -40,6 +40,20 @@ IsFound known before now path nothing = (now ≡ before) × HasNoFile known path
 -- what paths were found to stand for, in turn
 abbrev pub AreFound : Option Content → ℕ → ℕ → List PathBytes → List PathResult → Type 0
 AreFound known before now paths found = InTurn (IsFound known) before now paths found
+
+-- How far the asking of what a path stands for came: no call failed; the file or the folder could not be asked for; or the
+-- file, or some of the first files below the folder, were asked for in turn.
+pub data IsFoundSoFar (known : Option Content) (before now : ℕ) (path : PathBytes) : Type 0 where
+  without_fault : now ≡ before → IsFoundSoFar known before now path
+  refused : Fails before now → IsFoundSoFar known before now path
+  in_file : (entry : Entry) → IsEntry known path entry → InTurnSoFar (IsRead known) before now (entry ∷ []) → IsFoundSoFar known before now path
+  in_folder : (entries : List Entry) → HasNoFile known path → IsListed known path entries → InTurnSoFar (IsRead known) before now entries → IsFoundSoFar known before now path
+
+-- Some of the first of these paths were found in turn, and no other was asked for, or the next so far.
+pub data AreFoundSoFar (known : Option Content) (before now : ℕ) (paths : List PathBytes) : Type 0 where
+  between_paths : InTurnSoFar (IsFound known) before now paths → AreFoundSoFar known before now paths
+  within_path : (between : ℕ) (asked : List PathBytes) (path : PathBytes) (rest : List PathBytes) (found : List PathResult) → paths ≡ asked ++ path ∷ rest
+      → AreFound known before between asked found → IsFoundSoFar known between now path → AreFoundSoFar known before now paths
 
 -- how many askings failed: of the file, of the listing or of its files
 abbrev pub found_failures : PathResult → ℕ

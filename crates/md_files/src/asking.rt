@@ -1,5 +1,5 @@
 // The asking of a file.
-ghost use Rattle.std.specs.Prelude.{◌≡◌, ◌≤◌, true, false, IfOk, IsErrOf};
+ghost use Rattle.std.specs.Prelude.{◌≡◌, ◌≤◌, true, false, IfOk, OnErr, IsErrOf};
 ghost use Rattle.md_value.specs.Values.{IsMoment};
 ghost use Rattle.md_source.specs.Tree.{ReadHasCause};
 ghost use Rattle.imp_kind.specs.Imports as imports;
@@ -69,6 +69,7 @@ pub(crate) fn read_file<T: Tree>(
 ) -> Result<ImportResult, AllocError>
     requires { IsMoment entry.now.changed }
     ensures asked { IfOk result (λ asked. Gives (IsRead (T.content tree.old) (T.faults tree.old) (T.faults tree.new) entry.now) offset asked) }
+    ensures kept { OnErr result (T.faults tree.new ≡ T.faults tree.old) }
     ensures later { T.faults tree.old ≤ T.faults tree.new }
     ensures content { T.content tree.new ≡ T.content tree.old }
 {
@@ -92,6 +93,7 @@ pub fn ask_file<T: Tree>(
     offset: i32,
 ) -> Result<ImportResult, AllocError>
     ensures asked { IfOk result (λ asked. Gives (IsAsked (T.content tree.old) (T.faults tree.old) (T.faults tree.new) path.now) offset asked) }
+    ensures kept { OnErr result (T.faults tree.new ≡ T.faults tree.old) }
     ensures later { T.faults tree.old ≤ T.faults tree.new }
     ensures content { T.content tree.new ≡ T.content tree.old }
 {

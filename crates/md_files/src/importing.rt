@@ -1,9 +1,10 @@
 // The import of files and of folders.
-ghost use Rattle.std.specs.Prelude.{◌≡◌, ◌≤◌, ◌≢◌, ◌++◌, true, false, All, AllPairs, IfOk, IfSome, IsPermutation, OnOk};
+ghost use Rattle.std.specs.Prelude.{◌≡◌, ◌≤◌, ◌≢◌, ◌∷◌, ◌++◌, [], true, false, All, AllPairs, IfOk, IfSome, IsPermutation, OnOk};
 ghost use Rattle.md_value.specs.Values.{IsMoment, is_before};
 ghost use Rattle.md_source.specs.Causes.{Rose};
-ghost use Rattle.md_files.specs.Answers.{HasNoFile};
+ghost use Rattle.md_files.specs.Answers.{HasNoFile, IsRead, InTurnSoFar};
 ghost use Rattle.md_files.specs.Findings.{asked_count};
+ghost use Rattle.md_files.specs.Folders.{IsFoundSoFar, AreFoundSoFar};
 ghost use Rattle.md_files.specs.Reports.{Imports, EndHasCause, tells_all};
 ghost use Rattle.md_files.specs.Additions.{CountsFile, CountsFiles, CountsPath};
 
@@ -52,6 +53,7 @@ fn import_file<T: Tree>(
 ) -> Result<(), AllocError>
     requires { IsMoment entry.now.changed }
     ensures counts { OnOk result (CountsFile (T.content tree.old) (T.faults tree.old) (T.faults tree.new) offset entry.now report.old report.new) }
+    ensures so_far { InTurnSoFar (IsRead (T.content tree.old)) (T.faults tree.old) (T.faults tree.new) (entry.now ∷ []) }
     ensures later { T.faults tree.old ≤ T.faults tree.new }
     ensures content { T.content tree.new ≡ T.content tree.old }
 {
@@ -70,6 +72,7 @@ fn import_files<T: Tree>(
 ) -> Result<(), AllocError>
     requires { All (λ entry. IsMoment entry.changed) entries.now }
     ensures counts { OnOk result (CountsFiles (T.content tree.old) (T.faults tree.old) (T.faults tree.new) offset entries.now report.old report.new) }
+    ensures so_far { InTurnSoFar (IsRead (T.content tree.old)) (T.faults tree.old) (T.faults tree.new) entries.now }
     ensures later { T.faults tree.old ≤ T.faults tree.new }
     ensures content { T.content tree.new ≡ T.content tree.old }
 {
@@ -91,6 +94,7 @@ fn import_folder<T: Tree>(
 ) -> Result<(), AllocError>
     requires { HasNoFile (T.content tree.old) path.now }
     ensures counts { OnOk result (CountsPath (T.content tree.old) (T.faults tree.old) (T.faults tree.new) offset path.now report.old report.new) }
+    ensures so_far { IsFoundSoFar (T.content tree.old) (T.faults tree.old) (T.faults tree.new) path.now }
     ensures later { T.faults tree.old ≤ T.faults tree.new }
     ensures content { T.content tree.new ≡ T.content tree.old }
 {
@@ -114,6 +118,7 @@ fn import_path<T: Tree>(
     report: &mut FileReport,
 ) -> Result<(), AllocError>
     ensures counts { OnOk result (CountsPath (T.content tree.old) (T.faults tree.old) (T.faults tree.new) offset path.now report.old report.new) }
+    ensures so_far { IsFoundSoFar (T.content tree.old) (T.faults tree.old) (T.faults tree.new) path.now }
     ensures later { T.faults tree.old ≤ T.faults tree.new }
     ensures content { T.content tree.new ≡ T.content tree.old }
 {
@@ -139,6 +144,8 @@ pub fn import<T: Tree>(
     files: &[Path],
 ) -> Result<FileReport, AllocError>
     ensures imports { IfOk result (λ report. Imports (T.content tree.old) (T.faults tree.old) (T.faults tree.new) offset files.now report) }
+    // Also where memory runs out.
+    ensures so_far { AreFoundSoFar (T.content tree.old) (T.faults tree.old) (T.faults tree.new) files.now }
     ensures cause { IfOk result (λ report. EndHasCause (T.faults tree.old) (T.faults tree.new) report.end) }
     ensures later { T.faults tree.old ≤ T.faults tree.new }
     ensures content { T.content tree.new ≡ T.content tree.old }

@@ -1,6 +1,7 @@
 // The attributes of files.
 ghost use Rattle.std.specs.Prelude.{◌≡◌, ◌≤◌, ◌++◌, ◌||◌, true, false, is_some, IfOk, IfSome, OnOk};
 ghost use Rattle.md_source.specs.Causes.{Rose};
+ghost use Rattle.md_files.specs.Answers.{IsAsked, InTurnSoFar};
 ghost use Rattle.md_files.specs.Findings.{separator, given_attrs};
 ghost use Rattle.md_files.specs.Reports.{Shows, EndHasCause, tells_files};
 ghost use Rattle.md_files.specs.Additions.{next_text};
@@ -60,6 +61,8 @@ pub fn show<T: Tree>(
     files: &[Path],
 ) -> Result<FileReport, AllocError>
     ensures shows { IfOk result (λ report. Shows (T.content tree.old) (T.faults tree.old) (T.faults tree.new) offset raw marker.now names.now files.now report) }
+    // Also where memory runs out.
+    ensures so_far { InTurnSoFar (IsAsked (T.content tree.old)) (T.faults tree.old) (T.faults tree.new) files.now }
     ensures cause { IfOk result (λ report. EndHasCause (T.faults tree.old) (T.faults tree.new) report.end) }
     ensures later { T.faults tree.old ≤ T.faults tree.new }
     ensures content { T.content tree.new ≡ T.content tree.old }

@@ -4,7 +4,9 @@ use Rattle.std.proofs.lemmas.List.Sorted.{All-permutation}
 use Rattle.md_value.specs.Values.{IsMoment}
 use Rattle.md_source.specs.declared.tree.Entry.{Entry}
 use Rattle.md_files.specs.Additions.{CountsFiles}
+use Rattle.md_files.specs.Answers.{IsRead, InTurnSoFar}
 use Rattle.md_files.specs.Folders.{IsListed}
+use Rattle.md_files.specs.Folders.IsFoundSoFar.{without_fault, refused, in_folder}
 use Rattle.md_files.proofs.Answering.{on_ok}
 use Rattle.md_files.proofs.CountedFiles.{path_folder}
 use Rattle.md_files.proofs.Orders.{listed}
@@ -27,3 +29,29 @@ returns-in-Ok-clause-counts g c =
     rw c.deref.ensures.value
     (listed known c.args.path.now c.in-Ok.entries.items c.in_path_order-entries.result.items c.in-Ok.ensures.listing c.in-Ok.ensures.folder c.in-Ok.ensures.entries c.in_path_order-entries.ensures.same c.in_path_order-entries.ensures.ordered) in
     on_ok _ _ (path_folder known before c.args.offset now c.args.path.now c.deref.result.now c.args.report.now c.import_files.new.report c.requires is_listed) c.import_files.result counts
+
+pub returns-in-Ok-clause-so_far : goal.returns-in-Ok-clause-so_far
+returns-in-Ok-clause-so_far g c =
+    let known = g.T.Tree.content c.args.tree.now in
+    let before = g.T.Tree.faults c.args.tree.now in
+    let now = g.T.Tree.faults c.import_files.new.tree in
+    let is_listed : IsListed known c.args.path.now c.deref.result.now =
+    rw c.deref.ensures.value
+    (listed known c.args.path.now c.in-Ok.entries.items c.in_path_order-entries.result.items c.in-Ok.ensures.listing c.in-Ok.ensures.folder c.in-Ok.ensures.entries c.in_path_order-entries.ensures.same c.in_path_order-entries.ensures.ordered) in
+    let asked : InTurnSoFar (IsRead known) before now c.deref.result.now = rw (sym c.in-Ok.ensures.content, sym c.in-Ok.ensures.cause) c.import_files.ensures.so_far in
+    in_folder c.deref.result.now c.requires is_listed asked
+
+pub returns-in-Err-Absent-clause-so_far : goal.returns-in-Err-Absent-clause-so_far
+returns-in-Err-Absent-clause-so_far g c =
+    let is = c.in-Err-Absent.field-0-is in
+    without_fault (rw is at c.in-Err-Absent.ensures.cause)
+
+pub returns-in-Err-Failed-clause-so_far : goal.returns-in-Err-Failed-clause-so_far
+returns-in-Err-Failed-clause-so_far g c =
+    let is = c.in-Err-Failed.field-0-is in
+    refused (rw is at c.in-Err-Failed.ensures.cause)
+
+pub returns-in-Err-Memory-clause-so_far : goal.returns-in-Err-Memory-clause-so_far
+returns-in-Err-Memory-clause-so_far g c =
+    let is = c.in-Err-Memory.field-0-is in
+    without_fault (rw is at c.in-Err-Memory.ensures.cause)

@@ -1,4 +1,4 @@
-use Rattle.std.proofs.Common.{◌≡◌, ◌∷◌, ◌++◌, [], ◌+◌, ◌∙◌, take, subst, sym, ap, arith, rules, FitsSigned, w32}
+use Rattle.std.proofs.Common.{◌≡◌, ◌∷◌, ◌++◌, [], ◌+◌, ◌∙◌, take, refl, subst, sym, ap, arith, rules, FitsSigned, w32}
 use Rattle.std.proofs.lemmas.Int.{to_z-of_z}
 use Rattle.std.proofs.lemmas.List.{take_all, take_more}
 use Rattle.md_value.specs.Values.{PathBytes}
@@ -7,6 +7,7 @@ use Rattle.md_files.specs.Additions.{noted}
 use Rattle.md_files.specs.Findings.Finding.{named}
 use Rattle.md_files.specs.Reports.{FileReport}
 use Rattle.md_files.proofs.ShownFiles.{IsShowing, showing_more, shows_so}
+use Rattle.md_files.proofs.Turns.{kept_so_far, more_so_far}
 use Rattle.md_files.proofs.Causes.{shows_cause, shows_absent, shows_complete}
 use Rattle.md_files.proofs.showing.show.Goals as goal
 
@@ -50,3 +51,33 @@ returns-clause-complete g c =
     let all : take c.loop-path.path-index c.args.files.now ≡ c.args.files.now = take_all c.loop-path.path-index c.args.files.now (omega arith) in
     let shows = rw all at c.loop-path.invariant.shows in
     shows_complete _ _ _ _ _ _ c.args.files.now _ _ (shows_so shows)
+
+pub returns-in_err-asked-clause-so_far : goal.returns-in_err-asked-clause-so_far
+returns-in_err-asked-clause-so_far g c =
+    let l = c.loop-path in
+    kept_so_far (IsAsked (g.T.Tree.content c.args.tree.now)) _ _ _ c.args.files.now l.path-index l.invariant.shows.answers l.invariant.shows.asked c.in_err-asked.ensures.kept
+
+pub returns-in_err-some-clause-so_far : goal.returns-in_err-some-clause-so_far
+returns-in_err-some-clause-so_far g c =
+    let l = c.loop-path in
+    let paths = c.args.files.now in
+    let path = c.path-item.result in
+    let next = take_more paths l.path-index path c.loop-path-test.true ∙ ap (λ (x : PathBytes). take l.path-index paths ++ x ∷ []) (sym c.path-item.is) in
+    let shows = l.invariant.shows in
+    let asked = c.in_ok-asked.ensures.asked in
+    more_so_far (IsAsked (g.T.Tree.content c.args.tree.now)) _ _ _ paths l.path-index shows.answers path asked.answer next shows.asked (rw (sym l.invariant.content) asked.answers)
+
+pub returns-in_err-add_named-clause-so_far : goal.returns-in_err-add_named-clause-so_far
+returns-in_err-add_named-clause-so_far g c =
+    let l = c.loop-path in
+    let paths = c.args.files.now in
+    let path = c.path-item.result in
+    let next = take_more paths l.path-index path c.loop-path-test.true ∙ ap (λ (x : PathBytes). take l.path-index paths ++ x ∷ []) (sym c.path-item.is) in
+    let shows = l.invariant.shows in
+    let asked = c.in_ok-asked.ensures.asked in
+    more_so_far (IsAsked (g.T.Tree.content c.args.tree.now)) _ _ _ paths l.path-index shows.answers path asked.answer next shows.asked (rw (sym l.invariant.content) asked.answers)
+
+pub returns-clause-so_far : goal.returns-clause-so_far
+returns-clause-so_far g c =
+    let l = c.loop-path in
+    kept_so_far (IsAsked (g.T.Tree.content c.args.tree.now)) _ _ _ c.args.files.now l.path-index l.invariant.shows.answers l.invariant.shows.asked refl
