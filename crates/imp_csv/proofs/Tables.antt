@@ -1,7 +1,7 @@
 -- Records, columns and the values in them.
-use Rattle.std.proofs.Common.{◌≡◌, ℕ, ◌+◌, ◌<◌, ◌==◌, Bool, true, false, not, List, [], ◌∷◌, ◌++◌, length, get_or, map, Option, Some, None, Ok, Err, String, Global, string_bytes, ℤ, cond, chars, arith, refl, ap, ◌∙◌, subst, append-nil, pos, codes}
-use Rattle.std.specs.List.{AllByRecursion, position, flat_map}
-use Rattle.std.specs.Option.{ok_or, option_map}
+use Rattle.std.proofs.Common.{◌≡◌, ℕ, Bool, true, false, List, [], ◌∷◌, length, map, Option, Some, None, Ok, Err, ℤ, cond, chars, refl, ◌∙◌, subst, pos, codes}
+use Rattle.std.specs.List.{AllByRecursion, flat_map}
+use Rattle.std.specs.Option.{ok_or}
 use Rattle.md_value.specs.declared.fault.Fault.{Fault}
 use Rattle.md_value.specs.declared.fault.Fault.TheVariants.{NotSingle}
 use Rattle.md_value.specs.declared.schema.Rule.{Rule}
@@ -16,28 +16,7 @@ use Rattle.imp_csv.specs.Numbers.{whole_number}
 use Rattle.md_value.specs.Attrs.{Attr}
 use Rattle.imp_rules.specs.Content.{joined}
 use Rattle.imp_rules.specs.Files.{with_values, with_content}
-use Rattle.imp_csv.specs.Tables.{Row, with_table, header_of, later_of, uneven_of, fields_at, value_of, values_of}
-
--- the number of the record at the first place with another length than the header's
-pub uneven_is : (rows : List Row) (header : Row) (columns : ℕ) (place : Option ℕ) → 0 < length rows → header ≡ get_or rows 0 header → columns ≡ length header
-    → place ≡ position (λ row. not (length row == columns)) rows → option_map (λ k. k + 1) place ≡ uneven_of rows
-uneven_is [] header columns place some first count at = absurd (omega arith)
-uneven_is (row ∷ rows) header columns place some first count at =
-    let same : columns ≡ length row = count ∙ ap length first in
-    ap (option_map (λ k. k + 1)) (at ∙ ap (λ n. position (λ other. not (length other == n)) (row ∷ rows)) same)
-
-abbrev Texts : Type 0
-Texts = List (String Global)
-
--- where one of two lists is at its end, there is no further cell
-pub no_column : (fields : List (List ℕ)) (name : List ℕ) (xs ys : Texts) → length xs ≡ 0 → fields ++ fields_at name (map string_bytes xs) (map string_bytes ys) ≡ fields
-no_column fields name [] ys none = append-nil fields
-no_column fields name (x ∷ xs) ys none = absurd (omega arith)
-
-pub no_field : (fields : List (List ℕ)) (name : List ℕ) (xs ys : Texts) → length ys ≡ 0 → fields ++ fields_at name (map string_bytes xs) (map string_bytes ys) ≡ fields
-no_field fields name [] [] none = append-nil fields
-no_field fields name (x ∷ xs) [] none = append-nil fields
-no_field fields name xs (y ∷ ys) none = absurd (omega arith)
+use Rattle.imp_csv.specs.Tables.{Row, with_table, header_of, later_of, value_of, values_of}
 
 number_good : (n : Option ℤ) (fault : Fault) (v : Value) → made_of value.Number (ok_or n fault) ≡ Ok v → IsOf kind.Number v
 number_good (Some z) fault v e = let same : value.Number z ≡ v = cc in subst (IsOf kind.Number) same (tt, refl)

@@ -1,9 +1,9 @@
 -- The fields of a text are text, and its records are a function of it.
-use Rattle.std.proofs.Common.{◌≡◌, ◌⊎◌, inl, inr, ℕ, suc, ◌+◌, ◌<◌, ◌≤◌, ◌==◌, Bool, true, false, cond, List, [], ◌∷◌, ◌++◌, length, Option, Some, None, refl, sym, ap, ◌∙◌, subst, arith, append_assoc, append-nil, ⊎_elim, zero, get_or, ap₂, take, length-append}
+use Rattle.std.proofs.Common.{◌≡◌, ◌⊎◌, inl, inr, ℕ, suc, ◌+◌, ◌<◌, ◌≤◌, ◌==◌, Bool, true, false, cond, List, [], ◌∷◌, ◌++◌, length, Option, Some, None, refl, sym, ap, ◌∙◌, subst, arith, append_assoc, append-nil, ⊎_elim, zero, get_or, ap₂, take, drop, length-append}
 use Rattle.std.proofs.Math.Seq.{get_or-append_seam}
 use Rattle.std.specs.Prelude.{unwrap_or}
 use Rattle.std.proofs.lemmas.Bool.{and_parts}
-use Rattle.std.proofs.lemmas.List.{take_more, take_all}
+use Rattle.std.proofs.lemmas.List.{take_more, take_all, drop_more, drop_all}
 use Rattle.std.proofs.lemmas.Bool.{cases_Bool, cases_lt}
 use Rattle.std.proofs.lemmas.Bool.Decides.{nat_tests}
 use Rattle.std.proofs.lemmas.Str.{encode_ascii, IsUtf8-append, IsUtf8-nil, IsUtf8-past_char}
@@ -281,3 +281,13 @@ take_field fields i x e =
 -- all fields
 pub take_fields : (fields : List (List ℕ)) (i : ℕ) → field_at fields i ≡ None → take i fields ≡ fields
 take_fields fields i e = elim (cases_lt i (length fields)) [ inl lt ↦ absurd (field-there fields i lt e) | inr ge ↦ take_all i fields ge ]
+
+-- the next field, and then the others
+pub drop_field : (fields : List (List ℕ)) (i : ℕ) (x : List ℕ) → field_at fields i ≡ Some x → drop i fields ≡ x ∷ drop (i + 1) fields
+drop_field fields i x e =
+    let lt : i < length fields = elim (cases_lt i (length fields)) [ inl lt ↦ lt | inr ge ↦ absurd (none_field (sym (field-none fields i ge) ∙ e)) ] in
+    drop_more fields i [] lt ∙ ap (λ y. y ∷ drop (i + 1) fields) (field-get fields i x e)
+
+-- no more fields
+pub drop_fields : (fields : List (List ℕ)) (i : ℕ) → field_at fields i ≡ None → drop i fields ≡ []
+drop_fields fields i e = elim (cases_lt i (length fields)) [ inl lt ↦ absurd (field-there fields i lt e) | inr ge ↦ drop_all i fields ge ]

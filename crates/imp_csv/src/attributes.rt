@@ -1,61 +1,43 @@
 // The attributes of a CSV text.
-ghost use Rattle.std.specs.Prelude.{◌≡◌, ◌<◌, ◌∷◌, [], ◌^◌, OnOk, IsTrue, pos, length};
+ghost use Rattle.std.specs.Prelude.{◌≡◌, ◌∷◌, [], OnOk, IsTrue, pos};
 ghost use Rattle.md_value.specs.Name.{is_name};
 ghost use Rattle.md_value.specs.declared.value.Value.TheVariants as value;
 ghost use Rattle.imp_rules.specs.Files.{with_values};
 ghost use Rattle.imp_rules.specs.Faults.{Answers};
-ghost use Rattle.imp_csv.specs.Tables.{csv_attributes, attributes_of, with_table, header_of, later_of};
+ghost use Rattle.imp_csv.specs.Tables.{csv_attributes, attributes_of, with_table};
 
-use crate::fields::Fields;
-use crate::records::records;
-use crate::table::{Table, spaced_fields, uneven_of};
+use crate::reading::records;
+use crate::records::Records;
+use crate::table::Table;
 use imp_rules::{file_attributes, joined, put_content, put_value};
 use md_value::{Attrs, Fault, FillFault, Memory, Value};
 use std::alloc::Global;
 
+// Sets a number of columns or records, of which no memory holds 2 ^ 63.
 fn put_count(alloc: Global, attrs: &mut Attrs, name: &str, count: usize) -> Result<(), Memory>
-    requires name { IsTrue (is_name name.now) }
-    requires small { count < 2 ^ 63 }
+    requires { IsTrue (is_name name.now) }
     ensures { OnOk result (attrs.new ≡ with_values attrs.old name.now (value.Number (pos count) ∷ [])) }
 {
-    put_value(alloc, attrs, name, Value::Number(count as i64))
-}
-
-fn columns_of(records: &[Fields]) -> usize
-    ensures value { result ≡ length (header_of records.now) }
-    ensures small { result < 2 ^ 63 }
-{
-    match records {
-        [header, ..] => header.len(),
-        [] => 0,
-    }
-}
-
-fn rows_of(records: &[Fields]) -> usize
-    ensures { result ≡ length (later_of records.now) }
-{
-    match records {
-        [_, later @ ..] => later.len(),
-        [] => 0,
+    match i64::try_from(count) {
+        Ok(number) => put_value(alloc, attrs, name, Value::Number(number)),
+        Err(_) => Err(Memory),
     }
 }
 
 // The numbers of columns and rows, and the text content.
-fn put_table(alloc: Global, attrs: &mut Attrs, records: &[Fields]) -> Result<(), Memory>
-    requires { length records.now < 2 ^ 63 }
+fn put_table(alloc: Global, attrs: &mut Attrs, records: &Records) -> Result<(), Memory>
     ensures { OnOk result (attrs.new ≡ with_table records.now attrs.old) }
 {
-    put_count(alloc, attrs, "md_csv_columns", columns_of(records))?;
-    put_count(alloc, attrs, "md_csv_rows", rows_of(records))?;
-    let fields = spaced_fields(alloc, records)?;
+    put_count(alloc, attrs, "md_csv_columns", records.columns())?;
+    put_count(alloc, attrs, "md_csv_rows", records.rows())?;
+    let fields = records.spaced(alloc)?;
     put_content(alloc, attrs, joined(&fields))
 }
 
-fn attributes_of(alloc: Global, records: &[Fields], offset: i32) -> Result<Attrs, FillFault>
-    requires { length records.now < 2 ^ 63 }
+fn attributes_of(alloc: Global, records: &Records, offset: i32) -> Result<Attrs, FillFault>
     ensures { Answers result (attributes_of offset records.now) }
 {
-    if let Some(number) = uneven_of(records) {
+    if let Some(number) = records.uneven() {
         return Err(FillFault::Fault(Fault::Uneven(number)));
     }
     let mut attrs = file_attributes(alloc, &Table { records, offset })?;

@@ -1,22 +1,25 @@
-// Texts in a row.
-ghost use Rattle.std.specs.Prelude.{◌≡◌, ◌<◌, ◌^◌, [], ◌∷◌, ◌++◌, OnOk, OnErr, length, map, string_bytes};
+// Fields in a row.
+ghost use Rattle.std.specs.Prelude.{◌≡◌, [], ◌∷◌, ◌++◌, OnOk, length, option_map};
+ghost use Rattle.csv.specs.Records.{field_at, fields_of};
 
+use csv::StringRecord;
 use md_value::Memory;
 use std::alloc::Global;
 use std::marker::Model;
 
-/// The fields of a record, or some of a column. Contracts see them as the list of their bytes.
-#[derive(Debug, Drop)]
+/// Fields one after another, in one piece of memory. Contracts see them as the list of their bytes.
+#[derive(Drop)]
 pub(crate) struct Fields {
-    texts: Vec<String>,
+    texts: StringRecord,
 }
 
 impl Model for Fields {
-    ghost use Rattle.std.specs.Prelude.{List, ℕ, map, string_bytes};
+    ghost use Rattle.std.specs.Prelude.{List, ℕ};
+    ghost use Rattle.csv.specs.Records.{fields_of};
 
     ghost Value = { List (List ℕ) };
 
-    ghost view = { λ f. map string_bytes f.texts.items };
+    ghost view = { λ f. fields_of f.texts };
 }
 
 impl Fields {
@@ -24,29 +27,32 @@ impl Fields {
         ensures { result ≡ [] }
     {
         Fields {
-            texts: Vec::new(alloc),
+            texts: StringRecord::new(alloc),
         }
     }
 
-    pub(crate) fn push(&mut self, alloc: Global, text: &str) -> Result<(), Memory>
-        ensures ok { OnOk result (self.new ≡ self.old ++ text.now ∷ []) }
-        ensures err { OnErr result (self.new ≡ self.old) }
+    pub(crate) fn push(&mut self, text: &str) -> Result<(), Memory>
+        ensures { OnOk result (self.new ≡ self.old ++ text.now ∷ []) }
     {
-        let text = String::from_str(alloc, text)?;
-        self.texts.push(text)?;
-        Ok(())
+        self.texts.push_field(text)
     }
 
     pub(crate) fn len(&self) -> usize
-        ensures value { result ≡ length self.now }
-        ensures small { result < 2 ^ 63 }
+        ensures { result ≡ length self.now }
     {
         self.texts.len()
     }
 
-    pub(crate) fn texts(&self) -> &[String]
-        ensures { map string_bytes result.now ≡ self.now }
+    /// The field at a place, counted from 0.
+    pub(crate) fn get(&self, place: usize) -> Option<&str>
+        ensures { option_map (λ field. field.now) result ≡ field_at self.now place }
     {
-        self.texts.as_slice()
+        self.texts.get(place)
+    }
+
+    pub(crate) fn texts(&self) -> &StringRecord
+        ensures { fields_of result.now ≡ self.now }
+    {
+        &self.texts
     }
 }

@@ -8,7 +8,9 @@
 
 mod attributes;
 mod fields;
+mod reading;
 mod records;
+mod row;
 mod table;
 mod values;
 

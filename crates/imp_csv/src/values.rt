@@ -1,12 +1,14 @@
 // The values that fields give an attribute.
-ghost use Rattle.std.specs.Prelude.{◌≡◌, ◌==◌, slice_index, map, string_bytes};
+ghost use Rattle.std.specs.Prelude.{◌≡◌, ◌==◌, ◌++◌, ◌∷◌, [], OnOk, slice_index, map};
+ghost use Rattle.csv.specs.Records.{fields_of};
 ghost use Rattle.imp_rules.specs.Faults.{Answers, all_given};
 ghost use Rattle.imp_csv.specs.Numbers.{whole_number};
 ghost use Rattle.imp_csv.specs.Tables.{value_of, values_of};
 
 use crate::fields::Fields;
+use csv::StringRecord;
 use imp_rules::{date_value, text_value};
-use md_value::{Copied, Fault, FillFault, Items, Kind, Name, Rule, Value};
+use md_value::{Copied, Fault, FillFault, Items, Kind, Memory, Name, Rule, Value};
 use std::alloc::Global;
 
 fn begins_with_plus(text: &[u8]) -> bool
@@ -45,20 +47,27 @@ fn value_of(
     }
 }
 
+fn push_value(values: &mut Vec<Value>, value: Value) -> Result<(), Memory>
+    ensures { OnOk result (values.new.items ≡ values.old.items ++ value ∷ []) }
+{
+    values.push(value)?;
+    Ok(())
+}
+
 fn all_values(
     alloc: Global,
     name: &Name,
     kind: Kind,
     offset: i32,
-    fields: &[String],
+    fields: &StringRecord,
 ) -> Result<Items<Value>, FillFault>
-    ensures { Answers result (all_given (map (value_of offset name.now kind) (map string_bytes fields.now))) }
+    ensures { Answers result (all_given (map (value_of offset name.now kind) (fields_of fields.now))) }
 {
-    let mut values = Items::new(alloc);
+    let mut values = Vec::with_capacity(alloc, fields.len())?;
     for field in fields {
-        values.push(value_of(alloc, name, kind, offset, field)?)?;
+        push_value(&mut values, value_of(alloc, name, kind, offset, field)?)?;
     }
-    Ok(values)
+    Ok(Items::from_vec(values))
 }
 
 /// The values that the fields give the attribute of this name, or the first fault.

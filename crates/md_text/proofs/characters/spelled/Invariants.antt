@@ -1,6 +1,0 @@
-use Rattle.std.proofs.Common.{◌≡◌, string_bytes, take}
-use Rattle.std.specs.Prelude.{encode_utf8_all}
-use Rattle.md_text.proofs.characters.spelled.Given as goal
-
-abbrev pub invariant-loop-character : goal.invariant-loop-character
-invariant-loop-character l = string_bytes l.made ≡ encode_utf8_all (take l.character-index l.characters)
