@@ -41,3 +41,7 @@ both_true a b h k = rw (h, k) refl
 pub or_nothing : (b : Bool) → b || false ≡ b
 or_nothing true = refl
 or_nothing false = refl
+
+pub both_flags : (P : Bool → Type 0) → P false → P true → (b : Bool) → P b
+both_flags P f t true = t
+both_flags P f t false = f

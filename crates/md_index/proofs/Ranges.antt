@@ -27,12 +27,12 @@ use Rattle.md_index.proofs.Exact.{exact_value}
 -- ---- the values of one attribute
 
 -- a value between the edges at which the place is counted
-record Between (probe : Probe) (values : BTreeMap Value Places) (p : ℕ) : Type 0 where
-  value : Value
-  between : is_between probe value ≡ true
-  on : is_on (value_state values value p) ≡ true
+pub record Between (probe : Probe) (values : BTreeMap Value Places) (p : ℕ) : Type 0 where
+  pub value : Value
+  pub between : is_between probe value ≡ true
+  pub on : is_on (value_state values value p) ≡ true
 
-between_found : (probe : Probe) (values : BTreeMap Value Places) (es : List (Value × Places)) → AllByRecursion (λ (e : Value × Places). get value_cmp values e.0 ≡ Some e.1) es
+pub between_found : (probe : Probe) (values : BTreeMap Value Places) (es : List (Value × Places)) → AllByRecursion (λ (e : Value × Places). get value_cmp values e.0 ≡ Some e.1) es
     → (p : ℕ) → counted_between probe es p ≡ true → Between probe values p
 between_found probe values [] all p h = absurd (none h)
   where
@@ -47,7 +47,7 @@ between_found probe values (e ∷ es) all p h =
     })
     (λ t. between_found probe values es all.1 p (or_else (is_between probe e.0 && is_on (place_state e.1 p)) (counted_between probe es p) h t))
 
-between_counted : (probe : Probe) (es : List (Value × Places)) (v : Value) (p : ℕ) → is_between probe v ≡ true → is_on (state_in (lookup (is_at (value_cmp v)) es) p) ≡ true → counted_between probe es p ≡ true
+pub between_counted : (probe : Probe) (es : List (Value × Places)) (v : Value) (p : ℕ) → is_between probe v ≡ true → is_on (state_in (lookup (is_at (value_cmp v)) es) p) ≡ true → counted_between probe es p ≡ true
 between_counted probe [] v p between h = h
 between_counted probe (e ∷ es) v p between h =
     let first = is_between probe e.0 && is_on (place_state e.1 p) in

@@ -41,3 +41,18 @@ stayed R exact m k had P here there q =
     let before : get R m q ≡ None = subst (λ r. get R m r ≡ None) (exact k q e) had in
     rw (e, before) here)
     (λ e. rw e (there (get R m q)))
+
+-- the same for a relation that the key is part of
+pub updated_at : {K X : Type 0} (R : K → K → Ordering) → ((a b : K) → is_eq (R a b) ≡ true → a ≡ b) → (m n : BTreeMap K X) (k : K) (old new : Option X)
+    → get R m k ≡ old → ((q : K) → get R n q ≡ cond (is_eq (R k q)) new (get R m q))
+    → (P : K → Option X → Option X → Type 0) → P k old new → ((q : K) (o : Option X) → P q o o) → (q : K) → P q (get R m q) (get R n q)
+updated_at R exact m n k old new had update P here there q =
+    by_test (is_eq (R k q))
+    (λ e.
+    let same : k ≡ q = exact k q e in
+    let before : get R m q ≡ old = subst (λ r. get R m r ≡ old) same had in
+    let now : get R n q ≡ new = update q ∙ ap (λ b. cond b new (get R m q)) e in
+    rw (before, now) (subst (λ r. P r old new) same here))
+    (λ e.
+    let now : get R n q ≡ get R m q = update q ∙ ap (λ b. cond b new (get R m q)) e in
+    rw now (there q (get R m q)))

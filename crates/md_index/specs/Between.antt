@@ -1,5 +1,5 @@
 -- Which values are between the edges of a probe.
-use Rattle.std.specs.Prelude.{ℤ, pos, ◌*ℤ◌, ◌^◌, Bool, true, false, ◌&&◌, Option, None, Some}
+use Rattle.std.specs.Prelude.{ℕ, List, ℤ, pos, ◌*ℤ◌, ◌^◌, Bool, true, false, ◌&&◌, Option, None, Some}
 use Rattle.std.specs.declared.cmp.Ordering.{Ordering}
 use Rattle.std.specs.Option.{option_map_or}
 use Rattle.std.specs.Ordering.{nat_cmp, int_cmp, is_lt, is_gt, is_le, is_ge}
@@ -51,3 +51,7 @@ is_below m (edge.Without high) = option_map_or is_lt (mark_cmp m high) false
 -- whether a value is between the edges
 abbrev pub is_between : Probe → Value → Bool
 is_between probe v = is_above (mark_of probe.fold probe.marks v) probe.low && is_below (mark_of probe.fold probe.marks v) probe.high
+
+-- whether the texts of the key are between the edges
+abbrev pub is_key_between : Probe → List ℕ → Bool
+is_key_between probe key = is_above (mark.Text key) probe.low && is_below (mark.Text key) probe.high

@@ -4,13 +4,16 @@ use Rattle.std.specs.List.{list_any}
 use Rattle.std.specs.BTreeMap.{BTreeMap}
 use Rattle.md_value.specs.declared.value.Value.{Value}
 use Rattle.md_world.specs.declared.Row.{Row}
+use Rattle.md_index.specs.declared.between.Mark.TheVariants as mark
 use Rattle.md_index.specs.declared.between.Probe.{Probe}
 use Rattle.md_index.specs.declared.facts.Fact.{Fact}
 use Rattle.md_index.specs.declared.index.Index.{Index}
 use Rattle.md_index.specs.declared.places.Places.{Places}
-use Rattle.md_index.specs.Between.{is_between}
+use Rattle.md_index.specs.declared.wanted.Wanted.{Wanted}
+use Rattle.md_index.specs.Between.{is_between, mark_of}
 use Rattle.md_index.specs.Facts.{values_named, has_fact, row_has}
 use Rattle.md_index.specs.States.{block_state, place_state, state, is_on}
+use Rattle.md_index.specs.Keys.{Orders, AreKeysAt, is_keyed, is_of_texts, keys_at}
 
 -- attributes by name, each with its values and their places
 abbrev pub Names : Type 0
@@ -24,13 +27,23 @@ HoldRows names rows = (name : List ℕ) (value : Value) (place : ℕ) → is_on 
 abbrev pub HoldPlaces : Places → (ℕ → Option Row) → Type 0
 HoldPlaces places rows = (place : ℕ) → is_on (place_state places place) ≡ is_some (rows place)
 
+-- where keys are wanted, each is a right one, and each text of a row has its own
+pub record HoldKeys (orders : Orders) (rows : ℕ → Option Row) : Type 0 where
+  pub right : (wanted : Wanted) → AreKeysAt wanted (keys_at orders wanted)
+  pub whole : (wanted : Wanted) (key : List ℕ) (value : Value) (place : ℕ) → mark_of wanted.fold wanted.marks value ≡ mark.Text key → row_has (rows place) wanted.name value ≡ true → is_keyed (keys_at orders wanted) key value ≡ true
+
 -- the index has exactly these rows by place
 abbrev pub Holds : Index → (ℕ → Option Row) → Type 0
-Holds index rows = HoldRows index.names rows × HoldPlaces index.rows rows
+Holds index rows = HoldRows index.names rows × HoldPlaces index.rows rows × HoldKeys index.orders rows
 
 -- there is room for the place at each of these
 abbrev pub HasRoom : Names → List Fact → ℕ → Type 0
 HasRoom names facts place = (name : List ℕ) (value : Value) → has_fact facts name value ≡ true → is_some (state names name value place) ≡ true
+
+-- where keys are wanted, each text of these has its own
+abbrev pub HasKeys : Orders → List Fact → Type 0
+HasKeys orders facts =
+    (wanted : Wanted) (key : List ℕ) (value : Value) → mark_of wanted.fold wanted.marks value ≡ mark.Text key → has_fact facts wanted.name value ≡ true → is_keyed (keys_at orders wanted) key value ≡ true
 
 -- a change of the row of a place: the facts that it loses, those that it gains, and whether there is a row then
 pub record Prepared : Type 0 where
@@ -47,7 +60,13 @@ pub record IsReady (ready : Prepared) (old new : Option Row) : Type 0 where
 
 -- the index is as it was made ready for the change
 abbrev pub CanApply : Index → Prepared → Type 0
-CanApply index ready = HasRoom index.names ready.adds ready.place × (ready.is_row ≡ true → is_some (place_state index.rows ready.place) ≡ true)
+CanApply index ready =
+    HasRoom index.names ready.adds ready.place × (ready.is_row ≡ true → is_some (place_state index.rows ready.place) ≡ true) × HasKeys index.orders ready.adds
+
+-- keys are wanted for the probe, if only texts are between its edges
+abbrev pub IsWanted : Index → Probe → Type 0
+IsWanted index probe =
+    is_of_texts probe ≡ true → is_some (keys_at index.orders (record { name = probe.name; fold = probe.fold; marks = probe.marks })) ≡ true
 
 -- the rows with this one at the place
 abbrev pub row_set : (ℕ → Option Row) → ℕ → Option Row → ℕ → Option Row

@@ -28,7 +28,7 @@ IsFloorOf (edge.With m) v = IsFloor m v
 IsFloorOf (edge.Without m) v = IsFloor m v
 
 -- the value as a bound
-abbrev pub bound_at : Option Value → Bound Value
+abbrev pub bound_at : {X : Type 0} → Option X → Bound X
 bound_at None = Unbounded
 bound_at (Some v) = Included v
 

@@ -7,15 +7,19 @@ ghost use Rattle.md_value.specs.Values.{is_same};
 ghost use Rattle.md_index.specs.Order.{OneValue};
 ghost use Rattle.md_index.specs.States.{is_on, written, place_state, state};
 ghost use Rattle.md_index.specs.Facts.{has_fact};
+ghost use Rattle.md_index.specs.Keys.{Grows};
 ghost use Rattle.std.specs.List.Sorted.{IsStrictlyIncreasing};
-ghost use Rattle.md_index.specs.Indexed.{Holds, IsReady, CanApply, HasRoom, lists, row_between, row_set, Adds};
+ghost use Rattle.md_index.specs.Indexed.{Holds, IsReady, CanApply, HasRoom, HasKeys, IsWanted, lists, row_between, row_set, Adds};
 
 use crate::between::Probe;
 use crate::facts::{Fact, facts_left};
-use crate::named::Named;
+use crate::keys;
 use crate::names::{self, Names};
+use crate::orders::{self, Orders};
 use crate::places::{self, Places};
 use crate::range::{Found, all_between, places_between, rows_among};
+use crate::stretch::is_of_texts;
+use crate::wanted::Wanted;
 use md_world::Row;
 use std::alloc::{AllocError, Global};
 use std::collections::BTreeMap;
@@ -27,6 +31,8 @@ pub struct Index {
     names: Names,
     // The places that have a row.
     rows: Places,
+    // Texts by their keys, where a probe asked for them.
+    orders: Orders,
     alloc: Global,
 }
 
@@ -92,17 +98,21 @@ impl Index {
         Index {
             names: BTreeMap::new(alloc),
             rows: places::none(alloc),
+            orders: BTreeMap::new(alloc),
             alloc,
         }
     }
 
-    // Makes room for a place at each of these, and among the places that have a row.
+    // Makes room for a place at each of these, and among the places that have a row, and makes the keys that are wanted.
     fn make_room(&mut self, adds: &[Fact], place: u32) -> Result<(), AllocError>
         ensures values { (n : List ℕ) (v : OneValue) (p : ℕ) → is_on (state self.new.names n v p) ≡ is_on (state self.old.names n v p) }
         ensures places { (p : ℕ) → is_on (place_state self.new.rows p) ≡ is_on (place_state self.old.rows p) }
         ensures room { OnOk result (HasRoom self.new.names adds.now place) }
         ensures row { OnOk result (is_some (place_state self.new.rows place) ≡ true) }
+        ensures grows { Grows self.old.orders self.new.orders }
+        ensures keys { OnOk result (HasKeys self.new.orders adds.now) }
     {
+        orders::add_all(self.alloc, &mut self.orders, adds)?;
         promise_all(self.alloc, &mut self.names, adds, place)?;
         places::promise(self.alloc, &mut self.rows, place)
     }
@@ -111,6 +121,7 @@ impl Index {
     fn sweep(&mut self, facts: &[Fact], place: u32)
         ensures values { (n : List ℕ) (v : OneValue) (p : ℕ) → is_on (state self.new.names n v p) ≡ is_on (state self.old.names n v p) }
         ensures places { (p : ℕ) → is_on (place_state self.new.rows p) ≡ is_on (place_state self.old.rows p) }
+        ensures orders { self.new.orders ≡ self.old.orders }
     {
         sweep_all(&mut self.names, facts, place);
         places::sweep(&mut self.rows, place);
@@ -168,6 +179,26 @@ impl Index {
         self.sweep(&ready.adds, ready.place);
     }
 
+    /// Makes the keys of the texts of the probe's attribute under its modifiers, if only texts are between its edges and the
+    /// keys are not there yet. From then on a range of these keys is found without making one, and `ready` makes those of
+    /// new texts. The index has the rows that it had.
+    pub fn want(&mut self, probe: &Probe) -> Result<(), AllocError>
+        ensures rows { (rows : ℕ → Option Row) → Holds self.old rows → Holds self.new rows }
+        ensures wanted { OnOk result (IsWanted self.new probe.now) }
+    {
+        if !is_of_texts(probe) {
+            return Ok(());
+        }
+        let wanted = Wanted::of(self.alloc, probe)?;
+        if self.orders.contains_key(&wanted) {
+            return Ok(());
+        }
+        let values = self.names.get(&wanted.name);
+        let keys = keys::of_values(self.alloc, values, wanted.fold, wanted.marks)?;
+        self.orders.insert(wanted, keys)?;
+        Ok(())
+    }
+
     /// The places whose newest row has some value between the edges, in order, each once. The probe does not name the
     /// text content.
     pub fn range(&self, probe: &Probe) -> Result<Vec<u32>, AllocError>
@@ -175,9 +206,9 @@ impl Index {
         ensures places { IfOk result (λ places. (rows : ℕ → Option Row) → Holds self.now rows → (p : ℕ) → lists places.items p ≡ row_between probe.now (rows p)) }
         ensures upward { IfOk result (λ places. IsStrictlyIncreasing places.items) }
     {
-        let name = Named::of(self.alloc, &probe.name)?;
-        match self.names.get(&name) {
-            Some(values) => all_between(self.alloc, values, probe),
+        let wanted = Wanted::of(self.alloc, probe)?;
+        match self.names.get(&wanted.name) {
+            Some(values) => all_between(self.alloc, values, self.orders.get(&wanted), probe),
             None => Ok(Vec::new(self.alloc)),
         }
     }
@@ -190,9 +221,15 @@ impl Index {
         ensures over { IfOk result (λ found. found.whole ≡ false → most < length found.places.items) }
         ensures upward { IfOk result (λ found. IsStrictlyIncreasing found.places.items) }
     {
-        let name = Named::of(self.alloc, &probe.name)?;
-        match self.names.get(&name) {
-            Some(values) => places_between(self.alloc, values, probe, most),
+        let wanted = Wanted::of(self.alloc, probe)?;
+        match self.names.get(&wanted.name) {
+            Some(values) => places_between(
+                self.alloc,
+                values,
+                self.orders.get(&wanted),
+                probe,
+                most,
+            ),
             None => Ok(Found {
                 places: Vec::new(self.alloc),
                 whole: true,

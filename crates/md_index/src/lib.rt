@@ -6,12 +6,17 @@ mod blocks;
 mod facts;
 mod held;
 mod index;
+mod keyed;
+mod keys;
 mod named;
 mod names;
+mod orders;
 mod places;
 mod range;
 mod span;
+mod stretch;
 mod values;
+mod wanted;
 
 pub use between::{Edge, Mark, Probe};
 pub use index::{Index, IndexReady};

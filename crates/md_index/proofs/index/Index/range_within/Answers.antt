@@ -3,9 +3,12 @@ use Rattle.std.specs.Prelude.{Some, None}
 use Rattle.std.specs.Ordering.{nat_cmp}
 use Rattle.std.specs.Cmp.Lexicographic.{slice_cmp}
 use Rattle.std.specs.BTreeMap.{get}
+use Rattle.std.specs.Option.{option_map}
 use Rattle.std.proofs.lemmas.Result.{IfOk-weaker}
+use Rattle.md_index.specs.Keys.{keys_at, AreKeysFor}
 use Rattle.md_index.specs.Indexed.{counted_between, row_between, Adds}
 use Rattle.md_index.proofs.Adding.{adds_same, adds_none}
+use Rattle.md_index.proofs.Keying.{keys_for}
 use Rattle.md_index.proofs.Ranges.{in_range, out_of_range}
 use Rattle.md_index.proofs.index.Index.range_within.Goals as goal
 
@@ -15,8 +18,10 @@ returns-in-Some-clause-places c =
     let probe = c.args.probe.now in
     let values = c.in-Some.values.now in
     let found : get (slice_cmp nat_cmp) names probe.name ≡ Some values = search rules in
+    let got : option_map (λ k. k.now) c.get-in-Some.result ≡ keys_at c.args.self.now.orders (record { name = probe.name; fold = probe.fold; marks = probe.marks }) = search rules in
     IfOk-weaker c.places_between.result _ _
-    (λ found-places says rows holds. adds_same [] _ _ (counted_between probe values.entries) (λ p. row_between probe (rows p)) (λ p. in_range names probe c.requires rows holds.0 p values found c.places_between.ensures.ordered) says)
+    (λ found-places says rows holds. adds_same [] _ _ (counted_between probe values.entries) (λ p. row_between probe (rows p)) (λ p. in_range names probe c.requires rows holds.0 p values found c.places_between.ensures.ordered)
+    (says (subst (λ o. AreKeysFor probe o values) (sym got) (keys_for c.args.self.now.orders names probe values rows holds.0 holds.2 found))))
     c.places_between.ensures.adds
 
 pub returns-clause-places : goal.returns-clause-places

@@ -1,0 +1,16 @@
+use Rattle.std.proofs.Common.{◌≡◌, ℕ, List, true, false}
+use Rattle.std.proofs.lemmas.Result.{IfOk-weaker}
+use Rattle.md_index.specs.declared.between.Mark.TheVariants as mark
+use Rattle.md_index.specs.Between.{mark_of}
+use Rattle.md_index.specs.Keys.{is_keyed, keys_at}
+use Rattle.md_index.proofs.Bools.{both_flags}
+use Rattle.md_index.proofs.orders.add_folded.Goals as goal
+
+pub returns-clause-there : goal.returns-clause-there
+returns-clause-there c =
+    let fact = c.args.fact.now in
+    IfOk-weaker c.add_under-2.result _ _
+    (λ r second. both_flags
+    (λ marks. (k : List ℕ) → mark_of c.args.fold marks fact.held ≡ mark.Text k → is_keyed (keys_at c.add_under-2.new.orders (record { name = fact.name; fold = c.args.fold; marks = marks })) k fact.held ≡ true)
+    (λ k is. c.add_under-2.ensures.grows.kept (record { name = fact.name; fold = c.args.fold; marks = false }) k fact.held (c.in_ok-add_under.ensures.there k is)) second)
+    c.add_under-2.ensures.there
