@@ -7,3 +7,4 @@ pub mod Fewer
 pub mod Alike
 pub mod Sound
 pub mod Refused
+pub mod Crossing
