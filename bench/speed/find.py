@@ -2,9 +2,10 @@
 """Times `mdfind` on folders that this makes.
 
     find.py             10,000 files: 55 % texts of 50 to 800 words, 20 % JSON, 15 % CSV, 10 % others; `mdfind budget`
-                        beside `cat` of all files, with the greatest memory beside the bytes of the files, and on one
-                        processor beside all
-    find.py names       100,000 empty files; `mdfind -name plan` beside `find -iname '*plan*'`
+                        beside `cat` of all files, `grep`, and ripgrep and Recoll where they are installed, with the
+                        greatest memory beside the bytes of the files, and on one processor beside all
+    find.py names       100,000 empty texts, and 100,000 empty files of no known kind; `mdfind -name plan` beside
+                        `find -iname '*plan*'` and a reading of all in the order of their paths
     find.py memory      100 texts of 16 MiB, and 100,000 texts of 1 KiB; the greatest memory of `mdfind budget`
 
 Each figure is the least of three runs of a whole process; the program is built before.
@@ -13,6 +14,7 @@ import json
 import os
 import pathlib
 import random
+import shutil
 import subprocess
 import sys
 import tempfile
@@ -53,12 +55,12 @@ def fill(folder, count):
     return size
 
 
-def fill_empty(folder, count):
+def fill_empty(folder, count, ending):
     draw = random.Random(7)
     for number in range(count):
         place = folder / f"d{number % 1000}"
         place.mkdir(parents=True, exist_ok=True)
-        (place / f"{draw.choice(WORDS)}{number}.txt").touch()
+        (place / f"{draw.choice(WORDS)}{number}{ending}").touch()
 
 
 def run(command, folder):
@@ -78,24 +80,42 @@ def least(command, folder):
     return min(seconds for seconds, _, _ in runs), runs[-1][1], runs[-1][2]
 
 
+def recoll(folder, settings):
+    """The seconds of an index of the folder, and the least of three queries of it."""
+    settings.mkdir()
+    (settings / "recoll.conf").write_text(f"topdirs = {folder}\nloglevel = 1\nnoaspell = 1\nskippedNames+ = *.pdf\n")
+    index = run(["recollindex", "-c", settings], folder)[0]
+    return index, least(["recollq", "-c", settings, "-n", "0-10000", "budget"], folder)[0]
+
+
 def search(program, folder):
-    size = fill(folder, 10_000)
-    cat = least(["sh", "-c", "cat */* > /dev/null"], folder)[0]
-    ours, memory, printed = least([program, "mdfind", "budget"], folder)
-    one = least(["taskset", "-c", "0", program, "mdfind", "budget"], folder)[0]
-    grep = least(["sh", "-c", "grep -rli budget . || true"], folder)
+    files = folder / "files"
+    size = fill(files, 10_000)
+    cat = least(["sh", "-c", "cat */* > /dev/null"], files)[0]
+    ours, memory, printed = least([program, "mdfind", "budget"], files)
+    one = least(["taskset", "-c", "0", program, "mdfind", "budget"], files)[0]
+    grep = least(["sh", "-c", "grep -rli budget . || true"], files)
     print(f"mdfind {ours:.2f} s, cat {cat:.2f} s: {ours / cat:.1f} times")
     print(f"on one processor {one:.2f} s: {one / ours:.1f} times")
     print(f"memory {memory / 1000:.0f} MB, files {size / 1e6:.0f} MB: {memory * 1024 / size:.1f} times")
     print(f"hits {printed.count(10)}, files that grep finds {grep[2].count(10)}, in {grep[0]:.2f} s")
+    if shutil.which("rg"):
+        ripgrep = least(["rg", "-l", "-i", "budget", "."], files)
+        print(f"rg {ripgrep[0]:.2f} s: {ours / ripgrep[0]:.1f} times; files that it finds {ripgrep[2].count(10)}")
+    if shutil.which("recollindex"):
+        index, query = recoll(files, folder / "recoll")
+        print(f"recollindex {index:.2f} s, recollq {query:.2f} s: mdfind takes 1/{(index + query) / ours:.0f} of both")
 
 
 def search_names(program, folder):
-    fill_empty(folder, 100_000)
-    find = least(["find", ".", "-type", "f", "-iname", "*plan*"], folder)
-    ours = least([program, "mdfind", "-name", "plan"], folder)
-    print(f"mdfind -name {ours[0]:.2f} s, {ours[1] / 1000:.0f} MB; find {find[0]:.2f} s")
-    print(f"hits {ours[2].count(10)} and {find[2].count(10)}")
+    for ending in [".txt", ".bin"]:
+        files = folder / ending
+        fill_empty(files, 100_000, ending)
+        find = least(["find", ".", "-type", "f", "-iname", "*plan*"], files)
+        read = least(["sh", "-c", "find . -type f | LC_ALL=C sort | xargs cat"], files)
+        ours = least([program, "mdfind", "-name", "plan"], files)
+        print(f"{ending}: mdfind -name {ours[0]:.2f} s, {ours[1] / 1000:.0f} MB; find {find[0]:.2f} s; all are read in {read[0]:.2f} s")
+        print(f"hits {ours[2].count(10)} and {find[2].count(10)}")
 
 
 def fill_alike(folder, count, text):

@@ -15,7 +15,7 @@ use Rattle.caseless.specs.Caseless.{canonical_key}
 use Rattle.caseless.proofs.CaselessLemmas.{canonical_key-ascii, default_case_fold-ascii}
 use Rattle.md_text.specs.Key.{key, is_kept, is_nonspacing}
 
-kept-ascii : (c : ℕ) → c < 128 → is_kept c ≡ true
+pub kept-ascii : (c : ℕ) → c < 128 → is_kept c ≡ true
 unfolding tables general_category_stepped
 kept-ascii c h =
     Stepped-below general_category general_category_stepped (λ x category. not (is_nonspacing category)) 128 refl c h
@@ -25,7 +25,7 @@ filter-ascii [] all = refl
 filter-ascii (c ∷ cs) all =
     ap₂ (λ kept rest. cond kept (c ∷ rest) rest) (kept-ascii c (all zero 0 (suc-le-suc zero-le))) (filter-ascii cs (λ k d lt. all (suc k) d (suc-le-suc lt)))
 
-lower_ascii : (c : ℕ) → c < 128 → to_ascii_lowercase c < 128
+pub lower_ascii : (c : ℕ) → c < 128 → to_ascii_lowercase c < 128
 lower_ascii c h = grind (arith, nat_tests)
 
 filter-lowered : (cs : List ℕ) → All (λ c. c < 128) cs → filter is_kept (map to_ascii_lowercase cs) ≡ map to_ascii_lowercase cs
