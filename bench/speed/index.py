@@ -159,6 +159,16 @@ fn find_all(rt: &HostRuntime, index: &Index) -> anyhow::Result<()> {
     find(rt, index, "all rows", &Plan::All)
 }
 
+// Has the index make the keys of names, folded.
+fn want(rt: &HostRuntime, index: &mut Index) -> anyhow::Result<()> {
+    let plan = of_text(rt.alloc(), "kMDItemFSName", "")?;
+    let start = Instant::now(rt)?;
+    plan.want(index)?;
+    let spent = start.elapsed(rt)?.as_micros();
+    println!(rt; "keys of names, folded: {spent} us")?;
+    Ok(())
+}
+
 // Changes the rating of rows, and back, with all else as it was.
 fn rate(rt: &HostRuntime, index: &mut Index, rows: &[Row], count: u64) -> anyhow::Result<()> {
     let alloc = rt.alloc();
@@ -184,6 +194,8 @@ fn measure(rt: &HostRuntime, rows: &[Row]) -> anyhow::Result<()> {
     fill(&mut index, rows)?;
     let spent = start.elapsed(rt)?.as_micros();
     println!(rt; "index of {} rows: {spent} us", rows.len())?;
+    find_all(rt, &index)?;
+    want(rt, &mut index)?;
     for _ in 0..3 {
         find_all(rt, &index)?;
     }

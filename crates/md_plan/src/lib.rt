@@ -10,5 +10,6 @@ mod find;
 pub mod laws;
 mod places;
 mod plan;
+mod want;
 
 pub use plan::{Plan, plan_of};
