@@ -228,8 +228,8 @@ impl Session {
         self.report.push_out(text.as_str())
     }
 
-    // Asks a query for something, at a moment in milliseconds. Other lines ask for nothing.
-    fn ask_query(&mut self, alloc: Global, ms: u64, what: &What) -> Result<(), AllocError>
+    // Asks a query for something, at a moment in milliseconds, or for a vacuum. Other lines ask for nothing.
+    fn ask_by(&mut self, alloc: Global, ms: u64, what: &What) -> Result<(), AllocError>
         requires { self.old.next + 1 < 2 ^ 64 }
         ensures { OnOk result (self.new ≡ after_events self.old (asked_events ms what.now)) }
     {
@@ -257,6 +257,7 @@ impl Session {
                 client: *client,
                 number: *number,
             },
+            What::Vacuum { client } => Event::Vacuum { client: *client },
             _ => return Ok(()),
         };
         self.ask(alloc, &event)
@@ -300,7 +301,7 @@ impl Session {
                 self.ask(alloc, &event)
             }
             What::Show { client, number } => self.show(alloc, *client, *number),
-            what => self.ask_query(alloc, line.at_ms, what),
+            what => self.ask_by(alloc, line.at_ms, what),
         }
     }
 

@@ -68,6 +68,10 @@ pub enum What {
         client: u8,
         number: u32,
     },
+    /// `cC vacuum`: gives up the stored rows that no live query and no new one can see.
+    Vacuum {
+        client: u8,
+    },
 }
 
 /// A line that says something.
