@@ -2,3 +2,4 @@ pub mod Checks
 pub mod Times
 pub mod Trees
 pub mod Words
+pub mod Crossing

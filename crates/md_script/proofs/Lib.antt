@@ -1,5 +1,6 @@
 pub mod Asking
 pub mod Choosing
+pub mod Expressions
 pub mod FirstLine
 pub mod Naming
 pub mod Numerals

@@ -45,7 +45,8 @@ path_of word = if list_any is_space word then None else option_and_then below_ro
 unfoldable pub content_of : List ℕ → Option (List ℕ)
 content_of rest = option_and_then (λ text. if is_utf8 text then Some text else None) (unescaped rest)
 
--- the expression that a text is read as: by the law `one_outcome` of md_expr, `outcome` is the one answer that the grammar
--- and the limits allow (the relation `Answers`)
+-- The expression that a text is read as. By the law `expressions_are_read` it is `Some e` exactly where the text is UTF-8 and
+-- reads as `e` within the limits, by the relation `Answers` of md_expr; so `outcome` decides that relation, and need not be
+-- read.
 unfoldable pub expression_of : List ℕ → Option Expr
 expression_of text = if is_utf8 text then result_ok (outcome text) else None

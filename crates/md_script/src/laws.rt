@@ -1,8 +1,12 @@
-// What the verdict on a script means.
-ghost use Rattle.std.specs.Prelude.{◌≡◌, ◌≢◌, ℕ, ◌<◌, ◌≤◌, ◌↔◌, List, length, Some, None, Ok, Err};
+// What the verdict on a script means, and what the expression of a query is.
+ghost use Rattle.std.specs.Prelude.{◌≡◌, ◌≢◌, ℕ, ◌<◌, ◌≤◌, ◌↔◌, true, List, length, Some, None, Ok, Err};
+ghost use Rattle.std.specs.Str.{is_utf8};
 ghost use Rattle.std.specs.Str.Lines.{lines};
+ghost use Rattle.md_expr_tree.specs.declared.tree.Expr.{Expr};
+ghost use Rattle.md_expr.specs.Answer.{Answers};
 ghost use Rattle.md_script.specs.Scripts.{verdict, first_bad, statements, IsShort};
 ghost use Rattle.md_script.specs.Limits.{most_bytes, most_lines};
+ghost use Rattle.md_script.specs.Words.{expression_of};
 ghost use Rattle.md_script.specs.declared.script.Line.{Line};
 ghost use Rattle.md_script.specs.declared.script.ScriptError.TheVariants.{TooLong, TooManyLines, BadLine, Memory};
 
@@ -14,4 +18,10 @@ pub fn one_reading()
     ensures accepted { (bytes : List ℕ) (read : List Line) → (verdict bytes ≡ Ok read) ↔ (IsShort bytes × (first_bad bytes ≡ None) × (read ≡ statements bytes)) }
     // Want of memory is no verdict.
     ensures memory { (bytes : List ℕ) → verdict bytes ≢ Err Memory }
+{}
+
+/// The text after `where` gives an expression exactly where it is UTF-8 and reads as that expression by the grammar, within the
+/// limits.
+pub fn expressions_are_read()
+    ensures { (text : List ℕ) (expr : Expr) → (expression_of text ≡ Some expr) ↔ ((is_utf8 text ≡ true) × Answers (Ok expr) text) }
 {}

@@ -1,5 +1,4 @@
 pub mod Totals
 pub mod Placed
 pub mod Alone
-pub mod Pages
 pub mod Slots

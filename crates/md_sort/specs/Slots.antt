@@ -8,7 +8,7 @@ use Rattle.md_world.specs.declared.Row.{Row}
 use Rattle.md_world.specs.declared.order.SortKey.{SortKey}
 use Rattle.md_world.specs.Orders.{IsOrdered}
 use Rattle.md_sort.specs.Kept.{AreKept}
-use Rattle.md_sort.specs.Pages.{Listed}
+use Rattle.md_pages.specs.Pages.{Listed}
 
 -- the row, or an empty one where there is none
 abbrev pub row_or_empty : Option Row → Row

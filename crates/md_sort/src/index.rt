@@ -11,7 +11,7 @@ ghost use Rattle.md_sort.specs.Kept.{PathsDiffer};
 ghost use Rattle.md_sort.specs.Slots.{row_or_empty, rows_at, AllHeld, passes, AreIndexed, room_in};
 
 use crate::compare::row_before;
-use crate::paged::SlotList;
+use md_pages::SlotList;
 use md_value::Path;
 use md_world::{Row, SortKey};
 use slab::Slab;

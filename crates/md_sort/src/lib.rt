@@ -11,8 +11,6 @@
 mod compare;
 mod index;
 mod laws;
-mod page;
-mod paged;
 mod sorted;
 
 pub use laws::one_order;

@@ -6,7 +6,7 @@ ghost use Rattle.md_world.specs.Orders.{IsInOrder};
 ghost use Rattle.md_sort.specs.Kept.{AreKept, HasRoom};
 
 use crate::index;
-use crate::paged::SlotList;
+use md_pages::SlotList;
 use md_value::Path;
 use md_world::{Order, Row};
 use slab::Slab;

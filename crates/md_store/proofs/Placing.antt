@@ -1,9 +1,7 @@
 -- Facts on places, and on paths beside their slots.
-use Rattle.std.proofs.Common.{◌≡◌, ℕ, zero, suc, ◌<◌, ◌≤◌, Bool, true, cond, List, [], ◌∷◌, ◌++◌, length, refl, sym, ap, ◌∙◌, arith, length-append, ◌≢◌}
-use Rattle.std.specs.Prelude.{Option, None, Some, is_some, nat_eq, nat_lt, ◌+◌, position, slice_get, slice_set}
-use Rattle.std.proofs.lemmas.Bool.Decides.{nat_tests}
-use Rattle.std.specs.List.{list_any, position_or_len}
-use Rattle.std.specs.Cmp.Lexicographic.{pointwise}
+use Rattle.std.proofs.Common.{◌≡◌, ℕ, zero, suc, ◌<◌, ◌≤◌, cond, List, [], ◌∷◌, ◌++◌, length, refl, sym, ap, ◌∙◌, arith, length-append, ◌≢◌}
+use Rattle.std.specs.Prelude.{Option, None, Some, slice_get, slice_set}
+use Rattle.md_paths.specs.Tables.{next_number, number_in}
 use Rattle.md_value.specs.Values.{PathBytes, is_same}
 use Rattle.md_value.proofs.Orders.{same_exact, same_sym_false}
 use Rattle.md_world.specs.declared.Row.{Row}
@@ -20,67 +18,22 @@ same_sym p q =
     (λ e. ap (is_same p) (sym (same_exact p q e)) ∙ ap (λ x. is_same x p) (same_exact p q e))
     (λ e. e ∙ sym (same_sym_false p q e))
 
--- the test of a set of paths
-key_is : (p q : PathBytes) → pointwise nat_eq p q ≡ is_same p q
-unfolding is_same
-key_is p q = refl
-
-pub same_key : (p q : PathBytes) → pointwise nat_eq p q ≡ is_same q p
-same_key p q = key_is p q ∙ same_sym p q
-
 pub length-places_of : (keys : List PathBytes) (slots : List Slot) → length keys ≡ length slots → length (places_of keys slots) ≡ length slots
 length-places_of [] [] h = refl
 length-places_of [] (s ∷ slots) h = absurd (omega arith)
 length-places_of (k ∷ keys) [] h = absurd (omega arith)
 length-places_of (k ∷ keys) (s ∷ slots) h = ap suc (length-places_of keys slots (omega arith))
 
-first_later : (k n : ℕ) → cond (nat_lt (1 + k) (suc n)) (Some (1 + k)) None ≡ next_place (cond (nat_lt k n) (Some k) None)
-first_later k n =
-    let e : nat_lt (1 + k) (suc n) ≡ nat_lt k n = grind (arith, nat_tests) in
-    let f : 1 + k ≡ suc k = omega arith in
-    by_test (nat_lt k n)
-    (λ b. rw (e ∙ b, b, f) refl)
-    (λ b. rw (e ∙ b, b) refl)
+same_next : (o : Option ℕ) → next_number o ≡ next_place o
+same_next None = refl
+same_next (Some number) = refl
 
-first_here : (n : ℕ) → nat_lt 0 (suc n) ≡ true
-first_here n = grind (arith, nat_tests)
-
--- the first index at which a test holds, by cases
-pub position_cons : {X : Type 0} (p : X → Bool) (x : X) (xs : List X) → position p (x ∷ xs) ≡ cond (p x) (Some 0) (next_place (position p xs))
-position_cons p x xs =
-    by_test (p x)
-    (λ b. rw (b, first_here (length xs)) refl)
-    (λ b. rw (b, first_later (position_or_len p xs) (length xs)) refl)
-
--- a path's index in the set is its place
-pub position_places : (path : PathBytes) (keys : List PathBytes) (slots : List Slot) → length keys ≡ length slots → position (pointwise nat_eq path) keys ≡ place_in (places_of keys slots) path
-position_places path [] slots h = refl
-position_places path (k ∷ keys) [] h = absurd (omega arith)
-position_places path (k ∷ keys) (s ∷ slots) h =
-    let e = same_key path k in
-    let rest = position_places path keys slots (omega arith) in
-    position_cons (pointwise nat_eq path) k keys ∙ ap (λ b. cond b (Some 0) (next_place (position (pointwise nat_eq path) keys))) e ∙ ap (λ o. cond (is_same k path) (Some 0) (next_place o)) rest
-
--- and so is where it is found by the test of paths
-pub position_same : (path : PathBytes) (keys : List PathBytes) (slots : List Slot) → length keys ≡ length slots → position (λ key. is_same key path) keys ≡ place_in (places_of keys slots) path
-position_same path [] slots h = refl
-position_same path (k ∷ keys) [] h = absurd (omega arith)
-position_same path (k ∷ keys) (s ∷ slots) h =
-    position_cons (λ key. is_same key path) k keys ∙ ap (λ o. cond (is_same k path) (Some 0) (next_place o)) (position_same path keys slots (omega arith))
-
-pub any_places : (path : PathBytes) (keys : List PathBytes) (slots : List Slot) → length keys ≡ length slots → list_any (pointwise nat_eq path) keys ≡ is_some (place_in (places_of keys slots) path)
-any_places path [] slots h = refl
-any_places path (k ∷ keys) [] h = absurd (omega arith)
-any_places path (k ∷ keys) (s ∷ slots) h =
-    let e = same_key path k in
-    let rest = any_places path keys slots (omega arith) in
-    by_test (is_same k path)
-    (λ b. rw (b, e ∙ b) refl)
-    (λ b. rw (b, e ∙ b, rest) (some_next (place_in (places_of keys slots) path)))
-  where
-    some_next : (o : Option ℕ) → is_some o ≡ is_some (next_place o)
-    some_next None = refl
-    some_next (Some i) = refl
+-- a path's number in the table is its place
+pub number_places : (path : PathBytes) (keys : List PathBytes) (slots : List Slot) → length keys ≡ length slots → number_in keys path ≡ place_in (places_of keys slots) path
+number_places path [] slots h = refl
+number_places path (k ∷ keys) [] h = absurd (omega arith)
+number_places path (k ∷ keys) (s ∷ slots) h =
+    ap (λ o. cond (is_same k path) (Some 0) o) (same_next (number_in keys path) ∙ ap next_place (number_places path keys slots (omega arith)))
 
 pub places_of-push : (keys : List PathBytes) (slots : List Slot) (p : PathBytes) (s : Slot) → length keys ≡ length slots
     → places_of (keys ++ p ∷ []) (slots ++ s ∷ []) ≡ places_of keys slots ++ record { path = p; stamp = s.stamp; rows = s.chain.items } ∷ []

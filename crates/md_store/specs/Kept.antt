@@ -1,6 +1,5 @@
 -- What holds of a store's fields.
 use Rattle.std.specs.Prelude.{◌≡◌, ℕ, ◌+◌, ◌<◌, ◌≤◌, length, Some, vec_len, vec_capacity}
-use Rattle.indexmap.specs.IndexSet.{spare}
 use Rattle.md_store.specs.declared.store.Store.TheInside.{Inside}
 use Rattle.md_store.specs.Open.{tickets_of, AreDrawn}
 use Rattle.md_store.specs.Pins.{Ascend}
@@ -17,4 +16,4 @@ pub record IsKept (s : Inside) : Type 0 where
   pub kept : s.kept ≡ kept_of (places_of s.paths.keys s.slots.items)
   pub few : s.kept ≤ s.version
   pub chain_room : (place : ℕ) → s.room ≡ Some place → HasRowRoom s.slots.items place
-  pub place_room : s.room ≡ Some (length s.slots.items) → (0 < spare s.paths) × (vec_len s.slots < vec_capacity s.slots)
+  pub place_room : s.room ≡ Some (length s.slots.items) → (0 < s.paths.spare) × (vec_len s.slots < vec_capacity s.slots)

@@ -1,45 +1,31 @@
 // The places that have a row, in path order.
-ghost use Rattle.std.specs.Prelude.{◌≡◌, ℕ, ◌<◌, ◌^◌, length, map, IfOk, Some};
+ghost use Rattle.std.specs.Prelude.{◌≡◌, ℕ, ◌<◌, ◌^◌, length, map, slice_get, IfOk, Some};
 ghost use Rattle.md_world.specs.Differences.{paths_of};
+ghost use Rattle.md_store.specs.Chains.{IsOrdered};
 ghost use Rattle.md_store.specs.Places.{places_of, place_in, table_at, ArePlaces};
-ghost use Rattle.md_store.specs.Named.{live_from, bare_named};
+ghost use Rattle.md_store.specs.Named.{has_row};
+ghost use Rattle.md_store.specs.declared.slot.Slot.{Slot as OneSlot};
 
 use crate::chain::seen_in;
-use crate::key::PathKey;
 use crate::slot::Slot;
-use indexmap::IndexSet;
+use md_paths::PathTable;
 use std::alloc::{AllocError, Global};
 
-// The paths that have a row in a version, each with its place.
-fn named<'a>(
-    alloc: Global,
-    paths: &'a IndexSet<PathKey>,
-    slots: &[Slot],
-    version: u32,
-) -> Result<Vec<(&'a PathKey, u32)>, AllocError>
-    requires same { length paths.now.keys ≡ length slots.now }
-    requires few { length slots.now < 2 ^ 32 }
-    requires places { (newest : ℕ) × ArePlaces newest (places_of paths.now.keys slots.now) }
-    ensures { IfOk result (λ found. map bare_named found.items ≡ live_from 0 (places_of paths.now.keys slots.now) version) }
+// Whether a version sees a row at a place.
+fn has_row(slots: &[Slot], place: usize, version: u32) -> bool
+    requires { (k : ℕ) (slot : OneSlot) → slice_get slots.now k ≡ Some slot → IsOrdered slot.chain.items }
+    ensures { result ≡ has_row slots.now version place }
 {
-    let mut found = Vec::new(alloc);
-    for place in 0..slots.len() {
-        if seen_in(&slots[place].chain, version).is_some() {
-            let Some(key) = paths.get_index(place) else {
-                unreachable!()
-            };
-            if found.push((key, place as u32)).is_err() {
-                return Err(AllocError);
-            }
-        }
+    match slots.get(place) {
+        Some(slot) => seen_in(&slot.chain, version).is_some(),
+        None => false,
     }
-    Ok(found)
 }
 
 /// The places that have a row in a version, in the order of their paths.
 pub fn places_in_order(
     alloc: Global,
-    paths: &IndexSet<PathKey>,
+    paths: &PathTable,
     slots: &[Slot],
     version: u32,
 ) -> Result<Vec<u32>, AllocError>
@@ -48,13 +34,14 @@ pub fn places_in_order(
     requires places { (newest : ℕ) × ArePlaces newest (places_of paths.now.keys slots.now) }
     ensures { IfOk result (λ found. map Some found.items ≡ map (place_in (places_of paths.now.keys slots.now)) (paths_of (table_at (places_of paths.now.keys slots.now) version))) }
 {
-    let mut found = named(alloc, paths, slots, version)?;
-    found.sort()?;
-    let mut places = Vec::with_capacity(alloc, found.len())?;
-    for (_, place) in &found {
-        if places.push(*place).is_err() {
-            return Err(AllocError);
+    let mut found = Vec::new(alloc);
+    for rank in 0..paths.len() {
+        let Some(place) = paths.in_order(rank) else {
+            unreachable!()
+        };
+        if has_row(slots, place, version) {
+            found.push(place as u32)?;
         }
     }
-    Ok(places)
+    Ok(found)
 }

@@ -2,7 +2,6 @@
 ghost use Rattle.std.specs.Prelude.{◌≡◌, ℕ, true, ◌<◌, ◌+◌, [], IfOk, length, slice_get, vec_len, vec_capacity, IsSome, None, Some};
 ghost use Rattle.std.specs.Option.{option_copied};
 ghost use Rattle.md_world.specs.Tables.{row_of};
-ghost use Rattle.indexmap.specs.IndexSet.{spare};
 ghost use Rattle.md_store.specs.Chains.{IsOrdered, one_if};
 ghost use Rattle.md_store.specs.Places.{places_of, place_for, with_commit, HasRowRoom};
 ghost use Rattle.md_store.specs.declared.slot.Slot.{Slot as OneSlot};
@@ -10,9 +9,8 @@ ghost use Rattle.md_store.specs.declared.ready.DrawEnd.TheVariants as draw;
 ghost use Rattle.md_store.specs.declared.ready.ReadyEnd.TheVariants as end;
 
 use crate::chain::KeptRow;
-use crate::key::PathKey;
 use crate::slot::{Slot, commit};
-use indexmap::IndexSet;
+use md_paths::PathTable;
 use md_value::{Copied, Path};
 use md_world::{Change, Row};
 use std::alloc::{AllocError, Global};
@@ -59,7 +57,7 @@ impl From<AllocError> for ReadyEnd {
 pub struct Ready {
     ticket: u32,
     place: u32,
-    key: PathKey,
+    path: Path,
     row: Option<Row>,
     is_new: bool,
     chain: Vec<KeptRow>,
@@ -71,7 +69,7 @@ impl Model for Ready {
 
     ghost Value = { Readied };
 
-    ghost view = { λ r. record { ticket = r.ticket; place = r.place; path = r.key; row = r.row; is_new = r.is_new } };
+    ghost view = { λ r. record { ticket = r.ticket; place = r.place; path = r.path; row = r.row; is_new = r.is_new } };
 
     ghost invariant = { λ r. record { empty : r.chain.items ≡ []; room : r.is_new ≡ true → 0 < vec_capacity r.chain } };
 }
@@ -108,17 +106,17 @@ impl Ready {
         ticket: u32,
         place: u32,
         is_new: bool,
-        key: PathKey,
+        path: Path,
         change: &Change,
     ) -> Result<Ready, AllocError>
-        ensures { IfOk result (λ r. r ≡ record { ticket = ticket; place = place; path = key; row = row_of key change.now; is_new = is_new }) }
+        ensures { IfOk result (λ r. r ≡ record { ticket = ticket; place = place; path = path; row = row_of path change.now; is_new = is_new }) }
     {
-        let row = row_for(alloc, key.path(), change)?;
+        let row = row_for(alloc, &path, change)?;
         let chain = chain_for(alloc, is_new)?;
         Ok(Ready {
             ticket,
             place,
-            key,
+            path,
             row,
             is_new,
             chain,
@@ -157,17 +155,12 @@ impl Ready {
     }
 
     /// Makes the commit, as this version.
-    pub(crate) fn commit_to(
-        self,
-        paths: &mut IndexSet<PathKey>,
-        slots: &mut Vec<Slot>,
-        version: u32,
-    )
+    pub(crate) fn commit_to(self, paths: &mut PathTable, slots: &mut Vec<Slot>, version: u32)
         requires same { length paths.old.keys ≡ length slots.old.items }
         requires place { self.place ≡ place_for (places_of paths.old.keys slots.old.items) self.path }
         requires ordered { (k : ℕ) (slot : OneSlot) → slice_get slots.old.items k ≡ Some slot → IsOrdered slot.chain.items }
         requires row_room { HasRowRoom slots.old.items self.place }
-        requires place_room { self.place ≡ length slots.old.items → (0 < spare paths.old) × (vec_len slots.old < vec_capacity slots.old) }
+        requires place_room { self.place ≡ length slots.old.items → (0 < paths.old.spare) × (vec_len slots.old < vec_capacity slots.old) }
         requires is_new { self.place ≡ length slots.old.items → self.is_new ≡ true }
         ensures same { length paths.new.keys ≡ length slots.new.items }
         ensures places { places_of paths.new.keys slots.new.items ≡ with_commit (places_of paths.old.keys slots.old.items) self.path self.ticket version self.row }
@@ -175,7 +168,7 @@ impl Ready {
         let Ready {
             ticket,
             place,
-            key,
+            path,
             row,
             is_new: _,
             chain,
@@ -184,7 +177,7 @@ impl Ready {
             paths,
             slots,
             place as usize,
-            key,
+            path,
             chain,
             ticket,
             version,

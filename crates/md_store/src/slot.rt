@@ -4,11 +4,10 @@ ghost use Rattle.md_store.specs.Chains.{IsOrdered};
 ghost use Rattle.md_store.specs.Pins.{Ascend};
 ghost use Rattle.md_store.specs.Places.{places_of, place_in, place_for, with_commit, IsCommittedAt, ArePlaces, HasRowRoom, bare, bare_seen, rows_in, IsGivenUpAt};
 ghost use Rattle.md_store.specs.declared.slot.Slot.{Slot as OneSlot};
-ghost use Rattle.indexmap.specs.IndexSet.{spare};
 
 use crate::chain::{KeptRow, append, give_up, reserve_row};
-use crate::key::PathKey;
-use indexmap::IndexSet;
+use md_paths::PathTable;
+use md_value::Path;
 use md_world::Row;
 use std::alloc::AllocError;
 
@@ -19,22 +18,15 @@ pub struct Slot {
     pub chain: Vec<KeptRow>,
 }
 
-fn push_slot(
-    paths: &mut IndexSet<PathKey>,
-    slots: &mut Vec<Slot>,
-    key: PathKey,
-    chain: Vec<KeptRow>,
-)
+fn push_slot(paths: &mut PathTable, slots: &mut Vec<Slot>, path: Path, chain: Vec<KeptRow>)
     requires same { length paths.old.keys ≡ length slots.old.items }
-    requires absent { place_in (places_of paths.old.keys slots.old.items) key ≡ None }
-    requires path_room { 0 < spare paths.old }
+    requires absent { place_in (places_of paths.old.keys slots.old.items) path ≡ None }
+    requires path_room { 0 < paths.old.spare }
     requires slot_room { vec_len slots.old < vec_capacity slots.old }
-    ensures keys { paths.new.keys ≡ paths.old.keys ++ key ∷ [] }
+    ensures keys { paths.new.keys ≡ paths.old.keys ++ path ∷ [] }
     ensures slots { slots.new.items ≡ slots.old.items ++ record { stamp = 0; chain = chain } ∷ [] }
 {
-    let Ok(_) = paths.insert_full(key) else {
-        unreachable!()
-    };
+    paths.push(path);
     let Ok(()) = slots.push(Slot { stamp: 0, chain }) else {
         unreachable!()
     };
@@ -53,27 +45,27 @@ fn commit_slot(slots: &mut Vec<Slot>, place: usize, ticket: u32, version: u32, r
 
 /// Stamps the path at its place, or at the next one, and gives it the row from this version on, or none.
 pub fn commit(
-    paths: &mut IndexSet<PathKey>,
+    paths: &mut PathTable,
     slots: &mut Vec<Slot>,
     place: usize,
-    key: PathKey,
+    path: Path,
     chain: Vec<KeptRow>,
     ticket: u32,
     version: u32,
     row: Option<Row>,
 )
     requires same { length paths.old.keys ≡ length slots.old.items }
-    requires place { place ≡ place_for (places_of paths.old.keys slots.old.items) key }
+    requires place { place ≡ place_for (places_of paths.old.keys slots.old.items) path }
     requires ordered { (k : ℕ) (slot : OneSlot) → slice_get slots.old.items k ≡ Some slot → IsOrdered slot.chain.items }
     requires row_room { HasRowRoom slots.old.items place }
-    requires place_room { place ≡ length slots.old.items → (0 < spare paths.old) × (vec_len slots.old < vec_capacity slots.old) }
+    requires place_room { place ≡ length slots.old.items → (0 < paths.old.spare) × (vec_len slots.old < vec_capacity slots.old) }
     requires chain_room { place ≡ length slots.old.items → vec_len chain < vec_capacity chain }
     requires empty { chain.items ≡ [] }
     ensures same { length paths.new.keys ≡ length slots.new.items }
-    ensures places { places_of paths.new.keys slots.new.items ≡ with_commit (places_of paths.old.keys slots.old.items) key ticket version row }
+    ensures places { places_of paths.new.keys slots.new.items ≡ with_commit (places_of paths.old.keys slots.old.items) path ticket version row }
 {
     if place == slots.len() {
-        push_slot(paths, slots, key, chain);
+        push_slot(paths, slots, path, chain);
         commit_slot(slots, place, ticket, version, row);
     } else {
         commit_slot(slots, place, ticket, version, row);
@@ -95,7 +87,7 @@ fn row_room(slots: &mut Vec<Slot>, place: usize) -> Result<(), AllocError>
 
 /// Room for a commit at a place, or at the next one.
 pub fn make_room(
-    paths: &mut IndexSet<PathKey>,
+    paths: &mut PathTable,
     slots: &mut Vec<Slot>,
     place: usize,
 ) -> Result<(), AllocError>
@@ -104,14 +96,14 @@ pub fn make_room(
     ensures len { length slots.new.items ≡ length slots.old.items }
     ensures seen { (keys : List (List ℕ)) → places_of keys slots.new.items ≡ places_of keys slots.old.items }
     ensures row_kept { (k : ℕ) → HasRowRoom slots.old.items k → HasRowRoom slots.new.items k }
-    ensures place_kept { (0 < spare paths.old) × (vec_len slots.old < vec_capacity slots.old) → (0 < spare paths.new) × (vec_len slots.new < vec_capacity slots.new) }
+    ensures place_kept { (0 < paths.old.spare) × (vec_len slots.old < vec_capacity slots.old) → (0 < paths.new.spare) × (vec_len slots.new < vec_capacity slots.new) }
     ensures row_room { OnOk result (HasRowRoom slots.new.items place) }
-    ensures place_room { OnOk result (place ≡ length slots.new.items → (0 < spare paths.new) × (vec_len slots.new < vec_capacity slots.new)) }
+    ensures place_room { OnOk result (place ≡ length slots.new.items → (0 < paths.new.spare) × (vec_len slots.new < vec_capacity slots.new)) }
 {
     if place < slots.len() {
         row_room(slots, place)
     } else {
-        paths.reserve(1)?;
+        paths.reserve()?;
         slots.reserve(1)
     }
 }

@@ -11,13 +11,12 @@ ghost use Rattle.md_world.specs.declared.Change.{Change as OneChange};
 ghost use Rattle.md_store.specs.declared.ready.ReadyEnd.{ReadyEnd as OneEnd};
 
 use crate::chain::seen_in;
-use crate::key::{PathKey, index_of};
 use crate::named::places_in_order;
 use crate::pins::{pin, unpin};
 use crate::ready::{DrawEnd, NoTicket, Ready, ReadyEnd};
 use crate::slot::{Slot, give_up_all, make_room};
 use crate::tickets::{OpenTickets, close, open, path_of};
-use indexmap::IndexSet;
+use md_paths::PathTable;
 use md_value::{Copied, Path};
 use md_world::{Change, Limits, Row, Steps};
 use std::alloc::{AllocError, Global};
@@ -33,7 +32,7 @@ pub struct Store {
     version: u32,
     drawn: u32,
     tickets: OpenTickets,
-    paths: IndexSet<PathKey>,
+    paths: PathTable,
     slots: Vec<Slot>,
     pins: Vec<u32>,
     kept: u32,
@@ -65,7 +64,7 @@ impl Store {
             version: 0,
             drawn: 0,
             tickets: BTreeMap::new(alloc),
-            paths: IndexSet::new(alloc),
+            paths: PathTable::new(alloc),
             slots: Vec::new(alloc),
             pins: Vec::new(alloc),
             kept: 0,
@@ -105,9 +104,9 @@ impl Store {
         if self.drawn >= self.limits.tickets {
             return Err(DrawEnd::TicketsSpent);
         }
-        let key = PathKey::new(path.copy(self.alloc)?);
+        let path = path.copy(self.alloc)?;
         let number = self.drawn + 1;
-        open(&mut self.tickets, number, key)?;
+        open(&mut self.tickets, number, path)?;
         self.drawn = number;
         Ok(number)
     }
@@ -131,10 +130,10 @@ impl Store {
         ensures err { IfErr result (λ e. refusal self.now ticket ≡ Some e) }
     {
         let _most = self.limits.paths;
-        let Some(key) = path_of(&self.tickets, ticket) else {
+        let Some(path) = path_of(&self.tickets, ticket) else {
             return Err(ReadyEnd::NoTicket);
         };
-        match self.paths.get_index_of(key) {
+        match self.paths.number_of(path) {
             Some(place) => {
                 let newer = self.slots[place].stamp;
                 if ticket < newer {
@@ -163,12 +162,12 @@ impl Store {
     }
 
     // The path of an open ticket.
-    fn key_of(&self, ticket: u32) -> Result<PathKey, AllocError>
+    fn ticket_path(&self, ticket: u32) -> Result<Path, AllocError>
         requires { IsSome (ticket_at self.now.tickets ticket) }
-        ensures { IfOk result (λ key. (t : OneTicket) × (ticket_at self.now.tickets ticket ≡ Some t) × (key ≡ t.path)) }
+        ensures { IfOk result (λ path. (t : OneTicket) × (ticket_at self.now.tickets ticket ≡ Some t) × (path ≡ t.path)) }
     {
         match path_of(&self.tickets, ticket) {
-            Some(key) => key.copy(self.alloc),
+            Some(path) => path.copy(self.alloc),
             None => unreachable!(),
         }
     }
@@ -183,9 +182,9 @@ impl Store {
         ensures change { IfOk result (λ r. (r.ticket ≡ ticket) × (r.row ≡ row_of r.path change.now)) }
     {
         let place = self.place_for(ticket)?;
-        let key = self.key_of(ticket)?;
+        let path = self.ticket_path(ticket)?;
         let is_new = place == self.stamped();
-        let ready = Ready::of(self.alloc, ticket, place, is_new, key, change)?;
+        let ready = Ready::of(self.alloc, ticket, place, is_new, path, change)?;
         self.make_room(place)?;
         Ok(ready)
     }
@@ -224,7 +223,7 @@ impl Store {
         ensures { result ≡ place_in self.now.places path.now }
     {
         let _most = self.limits.paths;
-        match index_of(&self.paths, path) {
+        match self.paths.number_of(path) {
             Some(place) => Some(place as u32),
             None => None,
         }
@@ -236,8 +235,8 @@ impl Store {
         ensures path { result.now ≡ path_at self.now.places place }
         ensures place { place_in self.now.places result.now ≡ Some place }
     {
-        match self.paths.get_index(place as usize) {
-            Some(key) => key.path(),
+        match self.paths.get(place as usize) {
+            Some(path) => path,
             None => unreachable!(),
         }
     }

@@ -4,27 +4,27 @@ ghost use Rattle.std.specs.Option.{option_map};
 ghost use Rattle.md_world.specs.Tickets.{ticket_at, without_ticket};
 ghost use Rattle.md_store.specs.Open.{tickets_of, AreDrawn, with_path};
 
-use crate::key::PathKey;
+use md_value::Path;
 use std::alloc::AllocError;
 use std::collections::BTreeMap;
 
 /// The open tickets by number, each with the path that it was drawn for.
-pub type OpenTickets = BTreeMap<u32, PathKey>;
+pub type OpenTickets = BTreeMap<u32, Path>;
 
 /// The path of the open ticket of this number.
-pub fn path_of(tickets: &OpenTickets, number: u32) -> Option<&PathKey>
-    ensures { option_map (λ key. with_path number key.now) result ≡ ticket_at (tickets_of tickets.now.entries) number }
+pub fn path_of(tickets: &OpenTickets, number: u32) -> Option<&Path>
+    ensures { option_map (λ path. with_path number path.now) result ≡ ticket_at (tickets_of tickets.now.entries) number }
 {
     tickets.get(&number)
 }
 
 /// Opens a ticket, whose number is greater than those of all that were drawn.
-pub fn open(tickets: &mut OpenTickets, number: u32, key: PathKey) -> Result<(), AllocError>
+pub fn open(tickets: &mut OpenTickets, number: u32, path: Path) -> Result<(), AllocError>
     requires drawn { (drawn : ℕ) × AreDrawn drawn (tickets_of tickets.old.entries) × (drawn < number) }
-    ensures ok { OnOk result (tickets_of tickets.new.entries ≡ tickets_of tickets.old.entries ++ with_path number key ∷ []) }
+    ensures ok { OnOk result (tickets_of tickets.new.entries ≡ tickets_of tickets.old.entries ++ with_path number path ∷ []) }
     ensures err { OnErr result (tickets.new.entries ≡ tickets.old.entries) }
 {
-    tickets.insert(number, key)?;
+    tickets.insert(number, path)?;
     Ok(())
 }
 

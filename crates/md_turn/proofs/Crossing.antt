@@ -1,29 +1,10 @@
 -- What a lock has under it may go from thread to thread.
 
 use denote.RattleType.{RattleType}
-use denote.Hole.{as_row}
-use denote.Hole.Fix.{holes}
-use denote.Hole.FixLaws.{layer_row}
-use denote.Hole.FixSend.{Sends, fix_send}
-use denote.Struct.Field.{row_field}
 use denote.Struct.Declared as struct
 use denote.Enum.Declared as enum
 use denote.Param.Send.{IsSend, IsSync, sendable, plain_send, struct_send, enum_send, recorded_send, struct_sync, recorded_sync, view_sync}
-use denote.Param.SendFields.{as_row_send, variants_send}
-use Rattle.sqlite_items.specs.contracts.boxed.Boxed as boxed
-use Rattle.sqlite_items.specs.contracts.items.Items as items
-use Rattle.sqlite_items.proofs.boxed.Boxed.TheSendSync as boxed_sent
-use Rattle.sqlite_items.proofs.items.Items.TheSendSync as items_sent
-use Rattle.md_expr_tree.specs.contracts.tree.Test as test
-use Rattle.md_expr_tree.specs.contracts.tree.Expr as expr
-use Rattle.md_expr_tree.specs.contracts.tree.Expr.TheKnot as knot
-use Rattle.md_expr_tree.proofs.tree.Test.TheSendSync as test_sent
-use Rattle.md_value.proofs.path.Path.TheSendSync as path_sent
-use Rattle.md_world.proofs.order.Order.TheSendSync as order_sent
-use Rattle.md_world.proofs.Change.TheSendSync as change_sent
-use Rattle.md_machine.specs.contracts.Spec as spec
-use Rattle.md_machine.specs.contracts.Event as event
-use Rattle.md_machine.proofs.Batch.TheSendSync as batch_sent
+use Rattle.md_machine.proofs.Crossing.{event_field_sends}
 use Rattle.md_machine.proofs.Reply.TheSendSync as reply_sent
 use Rattle.std.proofs.alloc.Global.TheSendSync as heap_sent
 use Rattle.std.proofs.vec.Vec.TheSendSync as vec_sent
@@ -42,72 +23,10 @@ use Rattle.md_turn.specs.contracts.rule.RuleTableRuleOptionHeldViewSnapshot.TheI
 use Rattle.md_turn.specs.contracts.turn.Turn as turn
 use Rattle.md_turn.specs.contracts.turn.Turn.TheInside as inside
 
--- an expression holds expressions, so this is shown of one layer of it first
-layer_sends : (h : knot.the_members → RattleType) → ((j : knot.the_members) → IsSend (h j)) → IsSend (layer_row knot.ring knot.member-Expr h)
-layer_sends h each =
-    let hole : RattleType = h knot.member-Expr in
-    let sent : IsSend hole = each knot.member-Expr in
-    variants_send (knot.type-Expr hole hole hole) (
-      (as_row_send (row_field (as_row test.the_field)) test_sent.the_send, tt),
-      (
-        (as_row_send (row_field (boxed.the_row hole)) (boxed_sent.the_send hole sent), tt),
-        (
-          (as_row_send (row_field (items.the_row hole)) (items_sent.the_send hole sent), tt),
-          ((as_row_send (row_field (items.the_row hole)) (items_sent.the_send hole sent), tt), tt),
-        ),
-      ),
-    )
-
-hole_sends : IsSend expr.the_hole
-hole_sends = fix_send knot.ring (expr.by_members (λ i. Sends knot.ring i) record { send = layer_sends }) knot.member-Expr
-
-expr_sends : IsSend (expr.the_field).row
-expr_sends =
-    enum_send (enum.shape expr.the_type) (
-      (test_sent.the_field_send, tt),
-      (
-        (boxed_sent.the_send expr.the_hole hole_sends, tt),
-        ((items_sent.the_send expr.the_hole hole_sends, tt), ((items_sent.the_send expr.the_hole hole_sends, tt), tt)),
-      ),
-    )
-
-spec_sends : IsSend (spec.the_field).row
-spec_sends =
-    struct_send (struct.shape spec.the_type)
-    (expr_sends, (plain_send _ _ _ _ _, (plain_send _ _ _ _ _, (path_sent.the_send, (order_sent.the_send, (batch_sent.the_field_send, tt))))))
-
-event_sends : IsSend (event.the_field).row
-event_sends =
-    enum_send (enum.shape event.the_type) (
-      (path_sent.the_send, tt),
-      (
-        (plain_send _ _ _ _ _, (change_sent.the_field_send, tt)),
-        (
-          (plain_send _ _ _ _ _, tt),
-          (
-            (plain_send _ _ _ _ _, (plain_send _ _ _ _ _, (spec_sends, tt))),
-            (
-              (plain_send _ _ _ _ _, (plain_send _ _ _ _ _, (plain_send _ _ _ _ _, tt))),
-              (
-                (plain_send _ _ _ _ _, (plain_send _ _ _ _ _, tt)),
-                (
-                  (plain_send _ _ _ _ _, (plain_send _ _ _ _ _, (plain_send _ _ _ _ _, tt))),
-                  (
-                    (plain_send _ _ _ _ _, (plain_send _ _ _ _ _, (plain_send _ _ _ _ _, tt))),
-                    ((plain_send _ _ _ _ _, (plain_send _ _ _ _ _, tt)), ((plain_send _ _ _ _ _, tt), tt)),
-                  ),
-                ),
-              ),
-            ),
-          ),
-        ),
-      ),
-    )
-
 entry_field_sends : IsSend (entry.the_field).row
-entry_field_sends = struct_send (struct.shape entry.the_type) (plain_send _ _ _ _ _, (event_sends, (reply_sent.the_field_send, tt)))
+entry_field_sends = struct_send (struct.shape entry.the_type) (plain_send _ _ _ _ _, (event_field_sends, (reply_sent.the_field_send, tt)))
 
-entry_sends : IsSend entry.the_row
+pub entry_sends : IsSend entry.the_row
 entry_sends = recorded_send (entry.the_field).row _ _ (entry.the_type).to_one entry_field_sends
 
 held_field_sends : (C : RattleType) → IsSend C → IsSend (held.the_field C).row

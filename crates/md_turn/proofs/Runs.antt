@@ -1,9 +1,8 @@
 -- A journal that is legal by entries is the machine's run over its events.
-use Rattle.std.proofs.Common.{◌≡◌, ℕ, zero, suc, ◌+◌, List, [], ◌∷◌, length, map, refl, sym, ap, ◌∙◌, arith, Option, None, Some}
+use Rattle.std.proofs.Common.{◌≡◌, ℕ, zero, suc, ◌+◌, List, [], ◌∷◌, map, refl, ap, arith, Some}
 use Rattle.std.specs.Prelude.{slice_get}
 use Rattle.md_machine.specs.States.{State as ServerState}
 use Rattle.md_machine.specs.Steps.{step}
-use Rattle.md_machine.specs.Runs.{run_from}
 use Rattle.md_turn.specs.declared.journal.JournalEntry.{JournalEntry}
 use Rattle.md_turn.specs.Journal.{after, Legal, IsJournal, run_of}
 

@@ -6,7 +6,6 @@ use Rattle.atomic_table.specs.Seated.{TableId}
 use Rattle.md_turn.specs.declared.journal.JournalEntry.{JournalEntry}
 use Rattle.md_turn.specs.declared.rule.View.{View}
 use Rattle.md_machine.specs.States.{State as ServerState}
-use Rattle.md_machine.specs.Steps.{step}
 use Rattle.md_turn.specs.Journal.{IsJournal, run_of, IsPrefix, Has, total_of, times, once_below, longer, merge, Rises}
 use Rattle.md_turn.specs.Turns.{spent_view, made}
 

@@ -1,5 +1,5 @@
 //! A server with its journal.
-ghost use Rattle.std.specs.Prelude.{◌≡◌, ℕ, ◌+◌, [], ◌∷◌, ◌++◌, length, IfOk, IfErr, OnOk, OnErr};
+ghost use Rattle.std.specs.Prelude.{◌≡◌, ◌+◌, [], ◌∷◌, ◌++◌, length, IfOk, IfErr, OnOk, OnErr};
 ghost use Rattle.md_machine.specs.States.{State as ServerState};
 ghost use Rattle.md_machine.specs.Steps.{step};
 ghost use Rattle.md_turn.specs.Journal.{entry};

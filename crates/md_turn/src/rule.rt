@@ -1,5 +1,5 @@
 //! The rule that the lock keeps, and the names of its steps.
-ghost use Rattle.std.specs.Prelude.{◌≡◌, ℕ};
+ghost use Rattle.std.specs.Prelude.{ℕ};
 
 use crate::held::{Core, Held};
 use crate::journal::JournalEntry;

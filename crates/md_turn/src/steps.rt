@@ -1,10 +1,10 @@
 //! The steps of the lock, by a seat.
-ghost use Rattle.std.specs.Prelude.{◌≡◌, ℕ, ◌+◌, ◌-◌, ◌<◌, ◌≤◌, [], ◌∷◌, ◌++◌, length, IfOk, IfErr, true, false, Some};
+ghost use Rattle.std.specs.Prelude.{◌≡◌, ◌+◌, ◌-◌, ◌<◌, ◌≤◌, [], ◌∷◌, ◌++◌, length, IfOk, IfErr, true, false, Some};
 ghost use Rattle.md_turn.specs.declared.journal.JournalEntry.{JournalEntry};
 ghost use Rattle.md_turn.specs.declared.held.Held.{Held};
 ghost use Rattle.md_machine.specs.Steps.{step};
 ghost use Rattle.md_turn.specs.Journal.{entry, after, IsPrefix, shorter, longer};
-ghost use Rattle.md_turn.specs.Turns.{view, resting, made, Takes, Follows, cut, cut_off, joined, whole_share, Closes};
+ghost use Rattle.md_turn.specs.Turns.{view, resting, made, Takes, cut, cut_off, joined, whole_share, Closes};
 ghost use Rattle.md_turn.specs.Acts.{journal_of, state_of, Carries, Rests, Acted, Unacted};
 
 use crate::held::{Core, Held};

@@ -41,7 +41,7 @@ pub struct Refused {
 }
 
 impl<C: Core> Turn<C> {
-    ghost use Rattle.std.specs.Prelude.{◌≡◌, ℕ, ◌+◌, ◌-◌, ◌<◌, ◌≤◌, [], ◌∷◌, length, All, IfOk, IfErr, IsOk};
+    ghost use Rattle.std.specs.Prelude.{◌≡◌, ◌+◌, ◌-◌, ◌<◌, ◌≤◌, [], ◌∷◌, length, All, IfOk, IfErr, IsOk};
     ghost use Rattle.md_turn.specs.Journal.{Has, total_of};
     ghost use Rattle.md_turn.specs.Turns.{whole_share};
     ghost use Rattle.md_turn.specs.Passes.{made_by, Known, Joined, Ended, Gathered};

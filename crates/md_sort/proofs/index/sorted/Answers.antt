@@ -1,7 +1,7 @@
 use Rattle.std.proofs.Common.{rules, ◌≡◌, ◌<◌, length}
 use Rattle.std.specs.Prelude.{Some, None, slice_get}
 use Rattle.slab.specs.Slab.{get}
-use Rattle.md_sort.proofs.Pages.{not_there}
+use Rattle.md_pages.proofs.Pages.{not_there}
 use Rattle.md_sort.proofs.Slots.{sorted_more}
 use Rattle.md_sort.proofs.index.sorted.Goals.{in-Some, in_default}
 use Rattle.md_sort.proofs.index.sorted.Goals as goal

@@ -6,4 +6,4 @@ use Rattle.md_store.proofs.tickets.open.Goals as goal
 pub returns-clause-ok : goal.returns-clause-ok
 returns-clause-ok c =
     let d = c.requires.drawn in
-    ap tickets_of c.in_ok-insert.ensures.entries ∙ opened c.args.tickets.now.entries d.0 c.args.number c.args.key d.1 d.2
+    ap tickets_of c.in_ok-insert.ensures.entries ∙ opened c.args.tickets.now.entries d.0 c.args.number c.args.path d.1 d.2

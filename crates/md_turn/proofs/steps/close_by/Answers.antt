@@ -1,6 +1,5 @@
 use Rattle.std.proofs.Common.{rules, subst, sym}
 use Rattle.std.specs.Option.{IsSome}
-use Rattle.md_machine.specs.States.{State as ServerState}
 use Rattle.md_machine.specs.Steps.{step}
 use Rattle.md_turn.specs.Turns.{Closes}
 use Rattle.md_turn.specs.Acts.{journal_of, state_of}

@@ -14,7 +14,7 @@ invariant_of-self-2 c =
     let path = c.args.path.now in
     let one = length-append tickets (with_path (s.drawn + 1) path ∷ []) in
     let more : tickets_of c.open.new.tickets.entries ≡ tickets ++ with_path (s.drawn + 1) path ∷ [] =
-    c.in_ok-open.ensures.ok ∙ ap (λ p. tickets ++ with_path (s.drawn + 1) p ∷ []) (c.new-key.ensures ∙ c.in_ok-copy.ensures) in
+    c.in_ok-open.ensures.ok ∙ ap (λ p. tickets ++ with_path (s.drawn + 1) p ∷ []) c.in_ok-path.ensures in
     record {
       same = k.same;
       places = k.places;

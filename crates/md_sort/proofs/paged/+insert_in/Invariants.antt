@@ -1,5 +1,0 @@
-use Rattle.std.proofs.Common.{length}
-use Rattle.md_sort.proofs.paged.+insert_in.Given as goal
-
-abbrev pub decreases-insert_in : goal.decreases-insert_in
-decreases-insert_in l = length l.pages.now
