@@ -90,6 +90,8 @@ def query(client, rest):
 
 
 def client_line(client, rest):
+    if rest == "vacuum":
+        return f"c{client} vacuum"
     verb, space, rest = rest.partition(" ")
     if verb == "query" and space:
         return query(client, rest)
@@ -150,7 +152,7 @@ def mostly(draw, good, all_of):
 
 
 def drawn_line(draw):
-    kind = draw.randrange(10)
+    kind = draw.randrange(11)
     if kind == 0:
         return draw.choice(["", "#", "# note", "\r"])
     if kind == 1:
@@ -162,6 +164,8 @@ def drawn_line(draw):
     client = f"c{mostly(draw, ['0', '00', '9', '255'], ['256', '', '-1', 'x'])}"
     if kind < 8:
         return f"{client} {mostly(draw, VERBS, ['vacuum', 'Poll', ''])} {mostly(draw, NUMBERS[:6], NUMBERS)}"
+    if kind == 8:
+        return f"{client} {mostly(draw, ['vacuum'], ['vacuum ', 'Vacuum', 'stop'])}"
     words = draw.sample(OPTIONS, draw.randrange(4)) + [mostly(draw, OPTIONS, BAD_OPTIONS) for _ in range(draw.randrange(4) == 0)]
     return " ".join([client, "query", mostly(draw, NUMBERS[:6], NUMBERS), *words, "where", mostly(draw, TEXTS[:5], TEXTS)])
 

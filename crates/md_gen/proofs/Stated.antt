@@ -18,10 +18,11 @@ use Rattle.md_script.specs.declared.options.Options.{Options}
 use Rattle.md_script.specs.declared.script.What.{What}
 use Rattle.md_script.specs.declared.script.What.TheVariants as what
 use Rattle.md_script.specs.Lines.{first_word, after_word}
-use Rattle.md_script.specs.Words.{client_of, number_below, number_of, expression_of}
+use Rattle.md_words.specs.Numbers.{number_in}
+use Rattle.md_script.specs.Words.{client_of, number_of, expression_of}
 use Rattle.md_script.specs.Options.{asked_of, choice_of, choice_by, number_choice}
 use Rattle.md_script.specs.Query.{query_of, query_by}
-use Rattle.md_script.specs.Grammar.{said, says_nothing, said_by, command_of, asked_by, event_of}
+use Rattle.md_script.specs.Grammar.{said, says_nothing, said_by, command_of, client_line, asked_by, event_of}
 use Rattle.md_gen.specs.Reads.{IsTimely}
 use Rattle.md_gen.specs.Scripts.{expression, options}
 use Rattle.md_gen.proofs.Expressions.{IsAsked, asked_0, asked_1, asked_2, asked_3, asked_4, asked_5, asked_6, asked_7}
@@ -79,25 +80,25 @@ abbrev IsSized : List ℕ → ℕ → Type 0
 IsSized word client = is_sized (asked_text word client) ≡ true
 
 pub stated_gather : (client : ℕ) → client < 8 → IsStated (asked_text (codes "gather") client)
-unfolding said is_utf8 chars encode says_nothing said_by first_word command_of client_of number_below asked_by after_word number_of event_of digits
+unfolding said is_utf8 chars encode says_nothing said_by first_word command_of client_of number_in client_line asked_by after_word number_of event_of digits
 stated_gather client less =
     stated_sized (asked_text (codes "gather") client) (what.Gather client 1) (below_8 (Says (codes "gather") (λ client. what.Gather client 1)) refl refl refl refl refl refl refl refl client less) tt
     (below_8 (IsSized (codes "gather")) refl refl refl refl refl refl refl refl client less)
 
 pub stated_poll : (client : ℕ) → client < 8 → IsStated (asked_text (codes "poll") client)
-unfolding said is_utf8 chars encode says_nothing said_by first_word command_of client_of number_below asked_by after_word number_of event_of digits
+unfolding said is_utf8 chars encode says_nothing said_by first_word command_of client_of number_in client_line asked_by after_word number_of event_of digits
 stated_poll client less =
     stated_sized (asked_text (codes "poll") client) (what.Poll client 1) (below_8 (Says (codes "poll") (λ client. what.Poll client 1)) refl refl refl refl refl refl refl refl client less) tt
     (below_8 (IsSized (codes "poll")) refl refl refl refl refl refl refl refl client less)
 
 pub stated_disable : (client : ℕ) → client < 8 → IsStated (asked_text (codes "disable") client)
-unfolding said is_utf8 chars encode says_nothing said_by first_word command_of client_of number_below asked_by after_word number_of event_of digits
+unfolding said is_utf8 chars encode says_nothing said_by first_word command_of client_of number_in client_line asked_by after_word number_of event_of digits
 stated_disable client less =
     stated_sized (asked_text (codes "disable") client) (what.Disable client 1) (below_8 (Says (codes "disable") (λ client. what.Disable client 1)) refl refl refl refl refl refl refl refl client less) tt
     (below_8 (IsSized (codes "disable")) refl refl refl refl refl refl refl refl client less)
 
 pub stated_enable : (client : ℕ) → client < 8 → IsStated (asked_text (codes "enable") client)
-unfolding said is_utf8 chars encode says_nothing said_by first_word command_of client_of number_below asked_by after_word number_of event_of digits
+unfolding said is_utf8 chars encode says_nothing said_by first_word command_of client_of number_in client_line asked_by after_word number_of event_of digits
 stated_enable client less =
     stated_sized (asked_text (codes "enable") client) (what.Enable client 1) (below_8 (Says (codes "enable") (λ client. what.Enable client 1)) refl refl refl refl refl refl refl refl client less) tt
     (below_8 (IsSized (codes "enable")) refl refl refl refl refl refl refl refl client less)
@@ -118,7 +119,7 @@ stated_query client asked update says some sized =
     stated_sized (query_text client) (what.Query client 1 asked.expr [] [] (batch_of update)) (says ∙ ap (λ r. says_query client update (result_ok r)) asked.read ∙ rw some refl) asked.timely sized
 
 pub stated_queries : (client : ℕ) → client < 8 → IsStated (query_text client)
-unfolding said is_utf8 chars encode says_nothing said_by first_word command_of client_of number_below asked_by after_word number_of query_of asked_of choice_of choice_by number_choice expression_of expression digits
+unfolding said is_utf8 chars encode says_nothing said_by first_word command_of client_of number_in client_line asked_by after_word number_of query_of asked_of choice_of choice_by number_choice expression_of expression digits
 stated_queries =
     below_8 (λ client. IsStated (query_text client))
     (stated_query 0 asked_0 None refl refl refl)

@@ -5,6 +5,7 @@ use Rattle.std.specs.List.{All, list_any, slice_index, slice_split, position_fro
 use Rattle.std.specs.Str.Lines.{lines, lines_of_parts, strip_carriage_return}
 use Rattle.std.proofs.lemmas.List.Elements.{All-nil, All-cons, All-head, All-tail, All-append}
 use Rattle.std.proofs.lemmas.List.Splits.{slice_split_at, length-slice_split}
+use Rattle.std.proofs.lemmas.Bool.{or_parts}
 use Rattle.md_script.specs.declared.script.Line.{Line}
 use Rattle.md_script.specs.Limits.{most_lines}
 use Rattle.md_script.specs.Scripts.{is_bad_line, statements}
@@ -38,20 +39,16 @@ stated_more a m n less x = record { each = x.each; split = x.split; known = x.kn
 
 -- a line with an end behind it
 
-or_false : (a b : Bool) → (a || b) ≡ false → (a ≡ false) × (b ≡ false)
-or_false true b e = absurd (false≢true (sym e))
-or_false false b e = (refl, e)
-
 no_feed : (line : List ℕ) → list_any is_end line ≡ false → All (λ c. (c == 10) ≡ false) line
 no_feed [] none = All-nil (λ c. (c == 10) ≡ false)
 no_feed (c ∷ cs) none =
-    let parts = or_false (is_end c) (list_any is_end cs) none in
-    All-cons (λ c. (c == 10) ≡ false) c cs (or_false (c == 10) (c == 13) parts.0).0 (no_feed cs parts.1)
+    let parts = or_parts (is_end c) (list_any is_end cs) none in
+    All-cons (λ c. (c == 10) ≡ false) c cs (or_parts (c == 10) (c == 13) parts.0).0 (no_feed cs parts.1)
 
 no_return : (line : List ℕ) → list_any is_end line ≡ false → (k : ℕ) → (slice_index line k == 13) ≡ false
 no_return [] none k = refl
-no_return (c ∷ cs) none zero = (or_false (c == 10) (c == 13) (or_false (is_end c) (list_any is_end cs) none).0).1
-no_return (c ∷ cs) none (suc k) = no_return cs (or_false (is_end c) (list_any is_end cs) none).1 k
+no_return (c ∷ cs) none zero = (or_parts (c == 10) (c == 13) (or_parts (is_end c) (list_any is_end cs) none).0).1
+no_return (c ∷ cs) none (suc k) = no_return cs (or_parts (is_end c) (list_any is_end cs) none).1 k
 
 stripped : (line : List ℕ) → list_any is_end line ≡ false → strip_carriage_return line ≡ line
 stripped line none = rw (no_return line none (length line - 1)) refl

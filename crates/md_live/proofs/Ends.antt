@@ -97,6 +97,7 @@ module _ (now offset : ℤ) where
     given_stands ms (what.Enable client number) o kept = unasked o kept
     given_stands ms (what.Stop client number) o kept = unasked o kept
     given_stands ms (what.Show client number) o kept = unasked o kept
+    given_stands ms (what.Vacuum client) o kept = unasked o kept
 
   all_stand : (known : Option Content) (before after : ℕ) (lines : List Line) (givens : List (Option ImportResult)) → AreGiven offset known before after lines givens
       → Stands (list_any is_failed (filter_map finding_of (actions_of now offset lines givens))) before after
@@ -130,6 +131,7 @@ module _ (now offset : ℤ) where
     given_present before after ms (what.Enable client number) o kept is = cc
     given_present before after ms (what.Stop client number) o kept is = cc
     given_present before after ms (what.Show client number) o kept is = cc
+    given_present before after ms (what.Vacuum client) o kept is = cc
 
     all_present : (before after : ℕ) (lines : List Line) (givens : List (Option ImportResult)) → AreGiven offset (Some content) before after lines givens
         → list_any is_absent (filter_map finding_of (actions_of now offset lines givens)) ≡ true → tells_imports content lines ≡ false

@@ -24,7 +24,7 @@ use Rattle.md_script.specs.declared.grammar.Meaning.TheVariants as meaning
 use Rattle.md_script.specs.declared.script.Line.{Line}
 use Rattle.md_script.specs.declared.script.What.{What}
 use Rattle.md_script.specs.declared.script.What.TheVariants as what
-use Rattle.md_script.specs.Grammar.{put_of, remove_of, import_of, event_of, asked_by, command_of, moment_of, said_by, said, says_nothing}
+use Rattle.md_script.specs.Grammar.{put_of, remove_of, import_of, event_of, asked_by, client_line, command_of, moment_of, said_by, said, says_nothing}
 use Rattle.md_script.specs.Lines.{is_space, first_word, after_word, words_of}
 use Rattle.md_script.specs.Options.{asked_of}
 use Rattle.md_script.specs.Query.{query_of, query_by, order_of, batch_of}
@@ -121,13 +121,18 @@ asked_named client verb rest =
     if_either NamesNoRoot (bytes_eq verb (codes "query")) (query_of client rest) _ (query_named client rest)
     (if_then NamesNoRoot (event_of client verb) (number_of rest) (event_named client verb))
 
+client_named : (client : ℕ) (rest : List ℕ) → IfSome (client_line client rest) NamesNoRoot
+unfolding client_line
+client_named client rest =
+    if_either NamesNoRoot (bytes_eq rest (codes "vacuum")) (Some (what.Vacuum client)) _ tt (asked_named client (first_word rest) (after_word rest))
+
 command_named : (word rest : List ℕ) → IfSome (command_of word rest) NamesNoRoot
 unfolding command_of
 command_named word rest =
     if_either NamesNoRoot (bytes_eq word (codes "put")) (put_of rest) _ (put_named rest)
     (if_either NamesNoRoot (bytes_eq word (codes "import")) (import_of rest) _ (import_named rest)
     (if_either NamesNoRoot (bytes_eq word (codes "remove")) (remove_of rest) _ (remove_named rest)
-    (if_then NamesNoRoot (λ client. asked_by client (first_word rest) (after_word rest)) (client_of word) (λ client. asked_named client (first_word rest) (after_word rest)))))
+    (if_then NamesNoRoot (λ client. client_line client rest) (client_of word) (λ client. client_named client rest))))
 
 abbrev SaysNoRoot : Meaning → Type 0
 SaysNoRoot (meaning.Says what) = NamesNoRoot what
@@ -193,6 +198,7 @@ action_named now offset ms (what.Disable client number) given is = tt
 action_named now offset ms (what.Enable client number) given is = tt
 action_named now offset ms (what.Stop client number) given is = tt
 action_named now offset ms (what.Show client number) given is = tt
+action_named now offset ms (what.Vacuum client) given is = tt
 
 actions_named : (now offset : ℤ) (read : List Line) (givens : List (Option ImportResult)) → AreNamed read → AllByRecursion DoesNoRoot (actions_of now offset read givens)
 actions_named now offset [] givens is = tt

@@ -16,7 +16,8 @@ use Rattle.md_script.specs.declared.script.What.TheVariants as what
 use Rattle.md_script.specs.declared.script.Line.{Line}
 use Rattle.md_live.specs.Moments.{moment_of}
 
--- a job with what its file gives; a job that removes a path; an event of a query; or the showing of what a client holds
+-- a job with what its file gives; a job that removes a path; an event of a query, or a vacuum; or the showing of what a
+-- client holds
 pub data Action : Type 0 where
   job : PathBytes → ImportResult → Action
   removal : PathBytes → Action
@@ -40,6 +41,7 @@ action_at now offset ms (what.Disable client number) given = query (event.Disabl
 action_at now offset ms (what.Enable client number) given = query (event.Enable client number ms)
 action_at now offset ms (what.Stop client number) given = query (event.Stop client number)
 action_at now offset ms (what.Show client number) given = show client number
+action_at now offset ms (what.Vacuum client) given = query (event.Vacuum client)
 
 abbrev pub action_of : ℤ → ℤ → Line → Option ImportResult → Action
 action_of now offset line given = action_at now offset line.at_ms line.what given

@@ -90,11 +90,12 @@ sum_so_far t clients =
       held = map (given_to t.state) clients;
     }
 
--- the event by which a line asks a query for something, if it does
+-- the event by which a line asks a query for something, or for a vacuum, if it does
 abbrev pub asked_events : ℕ → What → List Event
 asked_events ms (what.Gather client number) = event.Gather client number ms ∷ []
 asked_events ms (what.Poll client number) = event.Poll client number ms ∷ []
 asked_events ms (what.Disable client number) = event.Disable client number ∷ []
 asked_events ms (what.Enable client number) = event.Enable client number ms ∷ []
 asked_events ms (what.Stop client number) = event.Stop client number ∷ []
+asked_events ms (what.Vacuum client) = event.Vacuum client ∷ []
 asked_events ms _ = []

@@ -22,7 +22,7 @@ use md_hub::Hub;
 use md_machine::{Batch, Event, Reply, Spec};
 use md_notice::Follower;
 use md_render::{entry_text, held_text};
-use md_script::{Content, Line, What};
+use md_script::{Line, What};
 use md_source::Entry;
 use md_value::{Copied, Items, Path};
 use md_world::{Change, Limits, Order, Part};
@@ -92,12 +92,12 @@ fn put_file(
     changed: i64,
     offset: i32,
     path: &Path,
-    content: &Content,
+    content: &str,
 ) -> Result<ImportResult, AllocError>
     requires { IsMoment changed }
     ensures { IfOk result (λ given. given ≡ actions.put_file changed offset path.now content.now) }
 {
-    let bytes = content.as_str().as_bytes();
+    let bytes = content.as_bytes();
     let entry = Entry {
         path: path.copy(alloc)?,
         size: bytes.len() as u64,
@@ -228,8 +228,8 @@ impl Session {
         self.report.push_out(text.as_str())
     }
 
-    // Asks a query for something, at a moment in milliseconds. Other lines ask for nothing.
-    fn ask_query(&mut self, alloc: Global, ms: u64, what: &What) -> Result<(), AllocError>
+    // Asks a query for something, at a moment in milliseconds, or for a vacuum. Other lines ask for nothing.
+    fn ask_by(&mut self, alloc: Global, ms: u64, what: &What) -> Result<(), AllocError>
         requires { self.old.next + 1 < 2 ^ 64 }
         ensures { OnOk result (self.new ≡ after_events self.old (asked_events ms what.now)) }
     {
@@ -257,6 +257,7 @@ impl Session {
                 client: *client,
                 number: *number,
             },
+            What::Vacuum { client } => Event::Vacuum { client: *client },
             _ => return Ok(()),
         };
         self.ask(alloc, &event)
@@ -278,7 +279,7 @@ impl Session {
         let moment = moment_of(setting.moment, line.at_ms);
         match &line.what {
             What::Put { path, text } => {
-                let given = put_file(alloc, moment, setting.offset, path, text)?;
+                let given = put_file(alloc, moment, setting.offset, path, text.as_str())?;
                 self.file(alloc, path, given)
             }
             What::Import { path } => self.file(alloc, path, given.unwrap_or(ImportResult::Absent)),
@@ -300,7 +301,7 @@ impl Session {
                 self.ask(alloc, &event)
             }
             What::Show { client, number } => self.show(alloc, *client, *number),
-            what => self.ask_query(alloc, line.at_ms, what),
+            what => self.ask_by(alloc, line.at_ms, what),
         }
     }
 

@@ -4,6 +4,7 @@ use Rattle.std.specs.List.{filter_map}
 use Rattle.std.proofs.Math.Bool.{and-true}
 use Rattle.std.proofs.lemmas.Bool.Decides.{nat_tests}
 use Rattle.std.proofs.lemmas.List.Elements.{filter_map-append}
+use Rattle.std.proofs.lemmas.Bool.{and_parts}
 use Rattle.md_world.specs.declared.order.SortKey.{SortKey}
 use Rattle.md_script.specs.declared.options.Choice.{Choice}
 use Rattle.md_script.specs.declared.options.Choice.TheVariants as choice
@@ -20,17 +21,13 @@ pub record Allowed (choices : List Choice) : Type 0 where
   pub ms : nat_le (count_in ms_in choices) 1 ≡ true
   pub keys : nat_le (count_in key_in choices) most_keys ≡ true
 
-both : (a b : Bool) → (a && b) ≡ true → (a ≡ true) × (b ≡ true)
-both true b h = (refl, h)
-both false b h = cc
-
 pub by_kind : (cs : List Choice) → are_allowed cs ≡ true → Allowed cs
 by_kind cs h =
-    let f = both (nat_le (count_in scope_in cs) 1 && nat_le (count_in first_in cs) 1 && nat_le (count_in progress_in cs) 1 && nat_le (count_in update_in cs) 1 && nat_le (count_in ms_in cs) 1) (nat_le (count_in key_in cs) most_keys) h in
-    let e = both (nat_le (count_in scope_in cs) 1 && nat_le (count_in first_in cs) 1 && nat_le (count_in progress_in cs) 1 && nat_le (count_in update_in cs) 1) (nat_le (count_in ms_in cs) 1) f.0 in
-    let d = both (nat_le (count_in scope_in cs) 1 && nat_le (count_in first_in cs) 1 && nat_le (count_in progress_in cs) 1) (nat_le (count_in update_in cs) 1) e.0 in
-    let c = both (nat_le (count_in scope_in cs) 1 && nat_le (count_in first_in cs) 1) (nat_le (count_in progress_in cs) 1) d.0 in
-    let b = both (nat_le (count_in scope_in cs) 1) (nat_le (count_in first_in cs) 1) c.0 in
+    let f = and_parts (nat_le (count_in scope_in cs) 1 && nat_le (count_in first_in cs) 1 && nat_le (count_in progress_in cs) 1 && nat_le (count_in update_in cs) 1 && nat_le (count_in ms_in cs) 1) (nat_le (count_in key_in cs) most_keys) h in
+    let e = and_parts (nat_le (count_in scope_in cs) 1 && nat_le (count_in first_in cs) 1 && nat_le (count_in progress_in cs) 1 && nat_le (count_in update_in cs) 1) (nat_le (count_in ms_in cs) 1) f.0 in
+    let d = and_parts (nat_le (count_in scope_in cs) 1 && nat_le (count_in first_in cs) 1 && nat_le (count_in progress_in cs) 1) (nat_le (count_in update_in cs) 1) e.0 in
+    let c = and_parts (nat_le (count_in scope_in cs) 1 && nat_le (count_in first_in cs) 1) (nat_le (count_in progress_in cs) 1) d.0 in
+    let b = and_parts (nat_le (count_in scope_in cs) 1) (nat_le (count_in first_in cs) 1) c.0 in
     record { scope = b.0; first = b.1; progress = c.1; update = d.1; ms = e.1; keys = f.1 }
 
 all_six : (a b c d e f : Bool) → a ≡ true → b ≡ true → c ≡ true → d ≡ true → e ≡ true → f ≡ true → (a && b && c && d && e && f) ≡ true

@@ -6,13 +6,10 @@ use Rattle.std.proofs.lemmas.Bool.Decides.{nat_tests}
 use Rattle.std.proofs.lemmas.List.Elements.{All-cons, All-nil}
 use Rattle.std.proofs.lemmas.Str.{IsUtf8-from_ascii, is_utf8-from_IsUtf8}
 use Rattle.std.proofs.lemmas.Str.Ascii.{IsAscii-from_all}
+use Rattle.std.proofs.lemmas.Bool.{and_parts}
 use Rattle.md_value.specs.Name.{is_name, is_name_start, is_name_part}
 use Rattle.md_world.specs.declared.order.SortKey.{SortKey}
 use Rattle.md_script.specs.Options.{named}
-
-both : (a b : Bool) → (a && b) ≡ true → (a ≡ true) × (b ≡ true)
-both true b e = (refl, e)
-both false b e = cc
 
 part_small : (c : ℕ) → is_name_part c ≡ true → c < 128
 part_small c h = grind (arith, nat_tests, h)
@@ -22,11 +19,11 @@ start_small c h = grind (arith, nat_tests, h)
 
 parts_small : (cs : List ℕ) → list_all is_name_part cs ≡ true → All (λ b. b < 128) cs
 parts_small [] h = All-nil (λ b. b < 128)
-parts_small (c ∷ cs) h = let p = both (is_name_part c) (list_all is_name_part cs) h in All-cons (λ b. b < 128) c cs (part_small c p.0) (parts_small cs p.1)
+parts_small (c ∷ cs) h = let p = and_parts (is_name_part c) (list_all is_name_part cs) h in All-cons (λ b. b < 128) c cs (part_small c p.0) (parts_small cs p.1)
 
 small : (name : List ℕ) → is_name name ≡ true → All (λ b. b < 128) name
 small [] h = cc
-small (c ∷ cs) h = let p = both (is_name_start c) (list_all is_name_part cs) h in All-cons (λ b. b < 128) c cs (start_small c p.0) (parts_small cs p.1)
+small (c ∷ cs) h = let p = and_parts (is_name_start c) (list_all is_name_part cs) h in All-cons (λ b. b < 128) c cs (start_small c p.0) (parts_small cs p.1)
 
 name_utf8 : (name : List ℕ) → is_name name ≡ true → is_utf8 name ≡ true
 name_utf8 name h = is_utf8-from_IsUtf8 name (IsUtf8-from_ascii name (IsAscii-from_all name (small name h)))

@@ -33,10 +33,14 @@ event_of client verb number =
     else (if bytes_eq verb (codes "show") then Some (what.Show client number)
     else None)))))
 
--- the line of a client, from its second word on
+-- the line of a client by its second word and what follows it
 unfoldable pub asked_by : ℕ → List ℕ → List ℕ → Option What
 asked_by client verb rest =
     if bytes_eq verb (codes "query") then query_of client rest else option_and_then (event_of client verb) (number_of rest)
+
+-- `cC vacuum`, or another line of a client
+unfoldable pub client_line : ℕ → List ℕ → Option What
+client_line client rest = if bytes_eq rest (codes "vacuum") then Some (what.Vacuum client) else asked_by client (first_word rest) (after_word rest)
 
 -- the line by its first word
 unfoldable pub command_of : List ℕ → List ℕ → Option What
@@ -44,7 +48,7 @@ command_of word rest =
     if bytes_eq word (codes "put") then put_of rest
     else (if bytes_eq word (codes "import") then import_of rest
     else (if bytes_eq word (codes "remove") then remove_of rest
-    else option_and_then (λ client. asked_by client (first_word rest) (after_word rest)) (client_of word)))
+    else option_and_then (λ client. client_line client rest) (client_of word)))
 
 -- empty, or begins with `#`
 unfoldable pub says_nothing : List ℕ → Bool

@@ -1,29 +1,24 @@
 -- The numbers, paths, contents and expressions of a line.
-use Rattle.std.specs.Prelude.{ℕ, ◌==◌, ◌^◌, nat_lt, Bool, not, ◌&&◌, if◌then◌else◌, List, [], ◌∷◌, length, Option, Some, None}
+use Rattle.std.specs.Prelude.{ℕ, ◌==◌, Bool, not, ◌&&◌, if◌then◌else◌, List, [], ◌∷◌, length, Option, Some, None}
 use Rattle.std.specs.Option.{option_and_then}
 use Rattle.std.specs.Result.{result_ok}
 use Rattle.std.specs.List.{list_any}
 use Rattle.std.specs.Str.{is_utf8}
-use Rattle.std.specs.Str.Parse.{digits_value}
-use Rattle.md_value.specs.Numerals.{is_numeral}
 use Rattle.md_value.specs.Path.{is_bad, normal}
+use Rattle.md_words.specs.Numbers.{number_in}
 use Rattle.md_expr_tree.specs.declared.tree.Expr.{Expr}
 use Rattle.md_expr.specs.Outcome.{outcome}
 use Rattle.md_script.specs.Lines.{is_space}
 use Rattle.md_script.specs.Escapes.{unescaped}
 
--- the number that digits write, where it is below the limit
-unfoldable pub number_below : ℕ → List ℕ → Option ℕ
-number_below limit text = if is_numeral text && nat_lt (digits_value 10 text) limit then Some (digits_value 10 text) else None
-
 -- a client's number after the letter `c`
 unfoldable pub client_of : List ℕ → Option ℕ
 client_of [] = None
-client_of (b ∷ digits) = if b == 99 then number_below 256 digits else None
+client_of (b ∷ digits) = if b == 99 then number_in 0 255 digits else None
 
 -- a number of 32 bits
 unfoldable pub number_of : List ℕ → Option ℕ
-number_of text = number_below (2 ^ 32) text
+number_of text = number_in 0 4294967295 text
 
 -- a text that is read as a path
 unfoldable pub is_path : List ℕ → Bool

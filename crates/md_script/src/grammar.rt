@@ -1,6 +1,6 @@
 // What a line says.
 ghost use Rattle.std.specs.Prelude.{◌≡◌, IfOk};
-ghost use Rattle.md_script.specs.Grammar.{put_of, import_of, remove_of, event_of, asked_by, command_of, says_nothing, moment_of, said_by, said};
+ghost use Rattle.md_script.specs.Grammar.{put_of, import_of, remove_of, event_of, asked_by, client_line, command_of, says_nothing, moment_of, said_by, said};
 
 use crate::What;
 use crate::lines::split_word;
@@ -91,6 +91,17 @@ fn asked_by(alloc: Global, client: u8, verb: &[u8], rest: &[u8]) -> Result<Optio
     }
 }
 
+#[tactic(auto, unfolding(crate::specs::Grammar::client_line))]
+fn client_line(alloc: Global, client: u8, rest: &[u8]) -> Result<Option<What>, AllocError>
+    ensures { IfOk result (λ what. what ≡ client_line client rest.now) }
+{
+    if rest == b"vacuum".as_slice() {
+        return Ok(Some(What::Vacuum { client }));
+    }
+    let (verb, rest) = split_word(rest);
+    asked_by(alloc, client, verb, rest)
+}
+
 #[tactic(auto, unfolding(crate::specs::Grammar::command_of))]
 fn command_of(alloc: Global, word: &[u8], rest: &[u8]) -> Result<Option<What>, AllocError>
     ensures { IfOk result (λ what. what ≡ command_of word.now rest.now) }
@@ -105,10 +116,7 @@ fn command_of(alloc: Global, word: &[u8], rest: &[u8]) -> Result<Option<What>, A
         return remove_of(alloc, rest);
     }
     match client_of(word) {
-        Some(client) => {
-            let (verb, rest) = split_word(rest);
-            asked_by(alloc, client, verb, rest)
-        }
+        Some(client) => client_line(alloc, client, rest),
         None => Ok(None),
     }
 }

@@ -8,7 +8,6 @@
 //! [`expressions_are_read`] that the expression of a query is the one that its text reads as.
 #![tactic(auto)]
 
-mod content;
 mod escapes;
 mod grammar;
 mod laws;
@@ -19,7 +18,6 @@ mod read;
 mod script;
 mod words;
 
-pub use content::Content;
 pub use laws::{expressions_are_read, one_reading};
 pub use options::MOST_KEYS;
 pub use read::{MOST_BYTES, MOST_LINES, read_script};

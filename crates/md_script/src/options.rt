@@ -1,6 +1,6 @@
 // The options of a query.
-ghost use Rattle.std.specs.Prelude.{◌≡◌, [], IfOk, Some, None, is_some, is_none, if◌then◌else◌};
-ghost use Rattle.std.specs.Option.{option_map, option_or};
+ghost use Rattle.std.specs.Prelude.{◌≡◌, [], IfOk, Some, None, is_some, if◌then◌else◌};
+ghost use Rattle.std.specs.Option.{option_map};
 ghost use Rattle.md_script.specs.Lines.{words_of};
 ghost use Rattle.md_script.specs.Words.{folder_of};
 ghost use Rattle.md_script.specs.Options.{named, key_of, number_choice, choice_by, choice_of, together, with_choice, asked_of};
@@ -9,6 +9,7 @@ ghost use Rattle.md_script.specs.declared.options.Choice.TheVariants.{In, By};
 use crate::lines::{first, split_once, split_word};
 use crate::words::{folder_of, number_of, text_of};
 use md_value::{Items, Name, NameError, Path};
+use md_words::set_once;
 use md_world::SortKey;
 use std::alloc::{AllocError, Global};
 
@@ -121,17 +122,6 @@ fn choice_of(alloc: Global, word: &[u8]) -> Result<Option<Choice>, AllocError>
         return Ok(None);
     };
     choice_by(alloc, name, value)
-}
-
-fn set_once<T: Drop>(slot: &mut Option<T>, value: T) -> bool
-    ensures set { result ≡ is_none slot.old }
-    ensures value { slot.new ≡ option_or slot.old (Some value) }
-{
-    if slot.is_some() {
-        return false;
-    }
-    *slot = Some(value);
-    true
 }
 
 /// What the options of a query say.

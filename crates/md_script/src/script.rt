@@ -2,10 +2,10 @@
 ghost use Rattle.std.specs.Prelude.{◌≡◌};
 ghost use Rattle.md_script.specs.declared.script.ScriptError.TheVariants.{Memory};
 
-use crate::Content;
 use md_expr::Expr;
 use md_machine::Batch;
 use md_value::{Items, Path};
+use md_words::Utf8;
 use md_world::Order;
 use std::alloc::{AllocError, AllocFailed};
 use std::marker::Model;
@@ -16,7 +16,7 @@ pub enum What {
     /// `put PATH CONTENT` or `put PATH`: a job whose file has this content, or none.
     Put {
         path: Path,
-        text: Content,
+        text: Utf8,
     },
     /// `import PATH`: a job whose file is read from the tree.
     Import {
@@ -67,6 +67,10 @@ pub enum What {
     Show {
         client: u8,
         number: u32,
+    },
+    /// `cC vacuum`: gives up the stored rows that no live query and no new one can see.
+    Vacuum {
+        client: u8,
     },
 }
 

@@ -1,33 +1,20 @@
 // The numbers, paths, contents and expressions of a line.
-ghost use Rattle.std.specs.Prelude.{◌≡◌, ◌==◌, length, IfOk, Some, None, if◌then◌else◌};
+ghost use Rattle.std.specs.Prelude.{◌≡◌, ◌≤◌, length, IfOk, IfSome, Some, None, if◌then◌else◌};
 ghost use Rattle.std.specs.Option.{option_map};
-ghost use Rattle.std.specs.List.{list_all, list_any};
-ghost use Rattle.std.specs.Char.{is_ascii_digit};
+ghost use Rattle.std.specs.List.{list_any};
 ghost use Rattle.std.specs.Str.{is_utf8};
 ghost use Rattle.md_value.specs.Path.{normal};
 ghost use Rattle.md_script.specs.Lines.{is_space};
-ghost use Rattle.md_value.specs.Numerals.{is_numeral};
-ghost use Rattle.md_script.specs.Words.{number_below, client_of, number_of, is_path, folder_of, below_root, path_of, content_of, expression_of};
+ghost use Rattle.md_words.specs.Numbers.{number_in};
+ghost use Rattle.md_script.specs.Words.{client_of, number_of, is_path, folder_of, below_root, path_of, content_of, expression_of};
 
-use crate::Content;
 use crate::escapes::unescaped;
 use crate::lines::first;
 use md_expr::{Expr, ReadError, read};
 use md_value::{Path, PathError};
+use md_words::{Utf8, number_in};
 use std::alloc::{AllocError, Global};
 use std::str;
-
-fn are_digits(text: &[u8]) -> bool
-    ensures { result ≡ list_all is_ascii_digit text.now }
-{
-    text.iter().all(|b| b.is_ascii_digit())
-}
-
-fn is_numeral(text: &[u8]) -> bool
-    ensures { result ≡ is_numeral text.now }
-{
-    !text.is_empty() && are_digits(text)
-}
 
 /// The bytes as a text, if they are UTF-8.
 pub fn text_of(bytes: &[u8]) -> Option<&str>
@@ -46,30 +33,23 @@ pub fn is_text(bytes: &[u8]) -> bool
     text_of(bytes).is_some()
 }
 
-/// The number below 2^32 that digits write.
+// The number from 0 to the most that digits write.
+#[tactic(auto, using(crate::proofs::Numerals::no_text, crate::proofs::Numerals::same_number))]
+fn number_up_to(most: u64, text: &[u8]) -> Option<u64>
+    ensures value { result ≡ number_in 0 most text.now }
+    ensures most { IfSome result (λ n. n ≤ most) }
+{
+    let digits = text_of(text)?;
+    number_in(0, most, digits)
+}
+
+/// The number of 32 bits that digits write.
+#[tactic(auto, unfolding(crate::specs::Words::number_of))]
 pub fn number_of(text: &[u8]) -> Option<u32>
     ensures { result ≡ number_of text.now }
 {
-    if !is_numeral(text) {
-        return None;
-    }
-    let Some(digits) = text_of(text) else {
-        return None;
-    };
-    match digits.parse::<u32>() {
-        Ok(number) => Some(number),
-        Err(_) => None,
-    }
-}
-
-#[tactic(auto, using(crate::proofs::Numerals::below_256))]
-fn client_number(digits: &[u8]) -> Option<u8>
-    ensures { result ≡ number_below 256 digits.now }
-{
-    match number_of(digits) {
-        Some(number) if number < 256 => Some(number as u8),
-        _ => None,
-    }
+    let number = number_up_to(u32::MAX as u64, text)?;
+    Some(number as u32)
 }
 
 /// The number of a client, in digits after the letter `c`.
@@ -83,7 +63,8 @@ pub fn client_of(word: &[u8]) -> Option<u8>
     if letter != b'c' {
         return None;
     }
-    client_number(digits)
+    let client = number_up_to(u8::MAX as u64, digits)?;
+    Some(client as u8)
 }
 
 fn has_space(word: &[u8]) -> bool
@@ -140,18 +121,18 @@ pub fn path_of(alloc: Global, word: &[u8]) -> Result<Option<Path>, AllocError>
     }
 }
 
-fn content_in(alloc: Global, text: &[u8]) -> Result<Option<Content>, AllocError>
+fn content_in(alloc: Global, text: &[u8]) -> Result<Option<Utf8>, AllocError>
     ensures { IfOk result (λ r. r ≡ (if is_utf8 text.now then Some text.now else None)) }
 {
     match text_of(text) {
-        Some(text) => Ok(Some(Content::of(alloc, text)?)),
+        Some(text) => Ok(Some(Utf8::of(alloc, text)?)),
         None => Ok(None),
     }
 }
 
 /// The content that the rest of a line writes.
 #[tactic(auto, unfolding(crate::specs::Words::content_of))]
-pub fn content_of(alloc: Global, rest: &[u8]) -> Result<Option<Content>, AllocError>
+pub fn content_of(alloc: Global, rest: &[u8]) -> Result<Option<Utf8>, AllocError>
     ensures { IfOk result (λ text. text ≡ content_of rest.now) }
 {
     match unescaped(alloc, rest)? {

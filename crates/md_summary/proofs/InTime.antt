@@ -20,6 +20,7 @@ form_in (what.Disable client number) timely = refl
 form_in (what.Enable client number) timely = refl
 form_in (what.Stop client number) timely = refl
 form_in (what.Show client number) timely = refl
+form_in (what.Vacuum client) timely = refl
 
 abbrev IsNow : Line → Type 0
 IsNow line = line.at_ms ≡ 0

@@ -1,7 +1,7 @@
 // The words of commands.
 use md_rows::{Field, RowError};
 use md_value::{Items, Name, Path};
-use md_words::{Command, Mode, Tool, Word, WordsError, read_words};
+use md_words::{Command, Mode, Tool, Utf8, WordsError, read_words};
 use std::alloc::{AllocError, Global};
 
 fn push_path(shown: &mut String, path: &Path) -> Result<(), AllocError> {
@@ -25,7 +25,7 @@ fn push_names(shown: &mut String, names: &Items<Name>) -> Result<(), AllocError>
     Ok(())
 }
 
-fn push_word(shown: &mut String, word: &Option<Word>) -> Result<(), AllocError> {
+fn push_word(shown: &mut String, word: &Option<Utf8>) -> Result<(), AllocError> {
     if let Some(word) = word {
         shown.push_str(" [")?;
         shown.push_str(word.as_str())?;

@@ -52,6 +52,7 @@ fn push_what(alloc: Global, shown: &mut String, what: &What) -> Result<(), Alloc
         What::Enable { client, number } => write!(shown, "c{client} enable {number}"),
         What::Stop { client, number } => write!(shown, "c{client} stop {number}"),
         What::Show { client, number } => write!(shown, "c{client} show {number}"),
+        What::Vacuum { client } => write!(shown, "c{client} vacuum"),
     }
 }
 

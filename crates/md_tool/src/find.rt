@@ -16,7 +16,7 @@ use md_expr::{Expr, ReadError};
 use md_find::{MOST_FILES, Output, Search, SearchResult};
 use md_source::{Clock, Tree};
 use md_value::{Copied, Path};
-use md_words::Word;
+use md_words::Utf8;
 use std::alloc::{AllocError, Global};
 use std::thread::Threads;
 
@@ -72,7 +72,7 @@ pub(crate) fn output_of(zero: bool, count: bool) -> Output
 }
 
 /// The text of a word, if there is one.
-pub(crate) fn text_of(word: &Option<Word>) -> Option<&str>
+pub(crate) fn text_of(word: &Option<Utf8>) -> Option<&str>
     ensures { option_map (λ text. text.now) result ≡ word.now }
 {
     match word {

@@ -2,7 +2,7 @@
 ghost use Rattle.std.specs.Prelude.{◌≡◌};
 ghost use Rattle.md_words.specs.declared.command.WordsError.TheVariants.{Memory};
 
-use crate::Word;
+use crate::Utf8;
 use md_value::{Items, Name, Path};
 use std::alloc::AllocError;
 
@@ -26,17 +26,17 @@ pub enum Tool {
         /// The folder that is searched, which may be the root.
         scope: Path,
         /// What a file's name is to have in it, if that is asked.
-        name: Option<Word>,
+        name: Option<Utf8>,
         mode: Mode,
         /// The search text, if there is one.
-        text: Option<Word>,
+        text: Option<Utf8>,
     },
     /// `mdls`: the attributes of files.
     Show {
         /// The values alone.
         raw: bool,
         /// What stands for an attribute that is absent.
-        marker: Word,
+        marker: Utf8,
         /// The attributes that are asked for, in the order of the words, or none where all are.
         names: Items<Name>,
         files: Items<Path>,

@@ -5,8 +5,9 @@ ghost use Rattle.md_words.specs.Words.{texts, begins_with_dash};
 ghost use Rattle.md_words.specs.Find.{flag_of, before, read_from, option, dir, text, no_options, with_option, find_options_of};
 
 use crate::files::path_of;
+use crate::once::{set_flag, set_once};
 use crate::word::{begins_with_dash, first_word};
-use crate::{Mode, Word};
+use crate::{Mode, Utf8};
 use md_value::Path;
 use std::alloc::{AllocError, Global};
 
@@ -20,7 +21,7 @@ pub enum FindWord {
     /// `-onlyin DIR`
     OnlyIn(Path),
     /// `-name TEXT`
-    Name(Word),
+    Name(Utf8),
     /// `-literal` or `-interpret`
     Mode(Mode),
 }
@@ -72,7 +73,7 @@ fn named<'a>(
     let Some((word, rest)) = first_word(words) else {
         return Ok(None);
     };
-    Ok(Some((FindWord::Name(Word::of(alloc, word)?), rest)))
+    Ok(Some((FindWord::Name(Utf8::of(alloc, word)?), rest)))
 }
 
 // The option that the word begins, and the words after it.
@@ -98,37 +99,13 @@ fn option_of<'a>(
     }
 }
 
-// Sets the flag, and answers whether it was not set.
-fn set_flag(flag: &mut bool) -> bool
-    ensures set { result ≡ not flag.old }
-    ensures value { flag.new ≡ true }
-{
-    if *flag {
-        return false;
-    }
-    *flag = true;
-    true
-}
-
-// Sets a slot that holds nothing, and answers whether it held nothing.
-fn set_once<T: Drop>(slot: &mut Option<T>, value: T) -> bool
-    ensures set { result ≡ is_none slot.old }
-    ensures value { slot.new ≡ option_or slot.old (Some value) }
-{
-    if slot.is_some() {
-        return false;
-    }
-    *slot = Some(value);
-    true
-}
-
 /// What the options of `mdfind` say.
 #[derive(Drop)]
 pub struct FindOptions {
     pub zero: bool,
     pub count: bool,
     pub scope: Option<Path>,
-    pub name: Option<Word>,
+    pub name: Option<Utf8>,
     pub mode: Option<Mode>,
 }
 

@@ -12,12 +12,16 @@ mod files;
 mod find;
 mod numbers;
 mod offset;
+mod once;
 mod options;
 mod read;
 mod tools;
+mod utf8;
 mod word;
 
 pub use command::{Command, Mode, Tool, WordsError};
+pub use numbers::number_in;
+pub use once::set_once;
 pub use read::read_words;
 pub use tools::MOST_MADE;
-pub use word::Word;
+pub use utf8::Utf8;

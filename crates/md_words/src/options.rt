@@ -5,7 +5,8 @@ ghost use Rattle.md_value.specs.Name.{is_name};
 ghost use Rattle.md_words.specs.Words.{texts, begins_with_dash};
 ghost use Rattle.md_words.specs.Options.{no_options, with_raw, joined, options_from, options_of, option, text, name};
 
-use crate::Word;
+use crate::Utf8;
+use crate::once::set_flag;
 use crate::word::{begins_with_dash, first_word};
 use md_value::{Items, Name, NameError};
 use std::alloc::{AllocError, Global};
@@ -14,7 +15,7 @@ use std::alloc::{AllocError, Global};
 #[derive(Drop)]
 pub struct Options {
     pub raw: bool,
-    pub marker: Option<Word>,
+    pub marker: Option<Utf8>,
     pub names: Items<Name>,
 }
 
@@ -44,11 +45,11 @@ impl Options {
         ensures value { joined self.old (option_and_then with_raw (options_from option (texts words.now))) ≡ option_and_then (λ rest. joined self.new (options_from option (texts rest.now))) result }
         ensures shorter { IfSome result (λ rest. length rest.now ≤ length words.now) }
     {
-        if self.raw {
-            return None;
+        if set_flag(&mut self.raw) {
+            Some(words)
+        } else {
+            None
         }
-        self.raw = true;
-        Some(words)
     }
 
     // Takes in the TEXT of `-nullMarker`, unless one stands already, and answers the words after it.
@@ -66,7 +67,7 @@ impl Options {
         if self.marker.is_some() {
             return Ok(None);
         }
-        self.marker = Some(Word::of(alloc, word)?);
+        self.marker = Some(Utf8::of(alloc, word)?);
         Ok(Some(rest))
     }
 

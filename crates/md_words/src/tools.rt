@@ -10,8 +10,8 @@ use crate::files::{files_below_root, files_of};
 use crate::find::{FindOptions, find_options_of};
 use crate::numbers::number_in;
 use crate::options::{Options, options_of};
-use crate::word::{begins_with_dash, first_word};
-use crate::{Mode, Tool, Word};
+use crate::word::{begins_with_dash, first_word, spaced};
+use crate::{Mode, Tool, Utf8};
 use md_value::{Items, Path};
 use std::alloc::{AllocError, Global};
 
@@ -29,13 +29,13 @@ fn alone(tool: Tool, words: &[String]) -> Option<Tool>
 }
 
 #[tactic(auto, unfolding(crate::specs::Words::text_of))]
-fn text_of(alloc: Global, words: &[String]) -> Result<Option<Word>, AllocError>
+fn text_of(alloc: Global, words: &[String]) -> Result<Option<Utf8>, AllocError>
     ensures { IfOk result (λ text. text ≡ text_of (texts words.now)) }
 {
     if words.is_empty() {
         return Ok(None);
     }
-    Ok(Some(Word::spaced(alloc, words)?))
+    Ok(Some(spaced(alloc, words)?))
 }
 
 fn scope_of(alloc: Global, scope: Option<Path>) -> Path
@@ -47,7 +47,7 @@ fn scope_of(alloc: Global, scope: Option<Path>) -> Path
     }
 }
 
-fn search_by(alloc: Global, options: FindOptions, text: Option<Word>) -> Option<Tool>
+fn search_by(alloc: Global, options: FindOptions, text: Option<Utf8>) -> Option<Tool>
     ensures offered { IfSome result (λ given. is_offered given ≡ true) }
     ensures value { result ≡ search_by options text }
 {
@@ -83,12 +83,12 @@ fn find_of(alloc: Global, words: &[String]) -> Result<Option<Tool>, AllocError>
     Ok(search_by(alloc, options, text))
 }
 
-fn marker_of(alloc: Global, marker: Option<Word>) -> Result<Word, AllocError>
+fn marker_of(alloc: Global, marker: Option<Utf8>) -> Result<Utf8, AllocError>
     ensures { IfOk result (λ word. word ≡ unwrap_or marker (codes "(null)")) }
 {
     match marker {
         Some(marker) => Ok(marker),
-        None => Word::of(alloc, "(null)"),
+        None => Utf8::of(alloc, "(null)"),
     }
 }
 

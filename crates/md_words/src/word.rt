@@ -2,46 +2,15 @@
 ghost use Rattle.std.specs.Prelude.{◌≡◌, [], ◌∷◌, ◌<◌, length, IfOk, MatchOption};
 ghost use Rattle.md_words.specs.Words.{texts, spaced, begins_with_dash};
 
+use crate::Utf8;
 use std::alloc::{AllocError, Global};
-use std::marker::Model;
 
-/// A word of the program, in UTF-8. Contracts see it as its bytes.
-#[derive(Debug, Drop)]
-pub struct Word {
-    text: String,
-}
-
-impl Model for Word {
-    ghost use Rattle.std.specs.Prelude.{List, ℕ, string_bytes};
-
-    ghost Value = { List ℕ };
-
-    ghost view = { λ w. string_bytes w.text };
-}
-
-impl Word {
-    /// The word of this text.
-    pub fn of(alloc: Global, text: &str) -> Result<Word, AllocError>
-        ensures { IfOk result (λ made. made ≡ text.now) }
-    {
-        let text = String::from_str(alloc, text)?;
-        Ok(Word { text })
-    }
-
-    /// The words with a space between each two, as one.
-    pub(crate) fn spaced(alloc: Global, words: &[String]) -> Result<Word, AllocError>
-        ensures { IfOk result (λ made. made ≡ spaced (texts words.now)) }
-    {
-        let text = words.join(alloc, " ")?;
-        Ok(Word { text })
-    }
-
-    /// Its text.
-    pub fn as_str(&self) -> &str
-        ensures { result.now ≡ self.now }
-    {
-        self.text.as_str()
-    }
+/// The words with a space between each two, as one text.
+pub fn spaced(alloc: Global, words: &[String]) -> Result<Utf8, AllocError>
+    ensures { IfOk result (λ made. made ≡ spaced (texts words.now)) }
+{
+    let text = words.join(alloc, " ")?;
+    Ok(Utf8::from_string(text))
 }
 
 /// The first word, and the others.
