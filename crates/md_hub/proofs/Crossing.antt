@@ -5,12 +5,8 @@ use denote.Param.Send.{IsSend, sendable, plain_send, struct_send, recorded_send,
 use Rattle.std.proofs.alloc.Global.TheSendSync as heap_sent
 use Rattle.std.proofs.vec.Vec.TheSendSync as vec_sent
 use Rattle.std.proofs.Crossing.{frees}
-use Rattle.indexmap.proofs.map.IndexMap.TheSendSync as map_sent
-use Rattle.md_world.proofs.Limits.TheSendSync as limits_sent
-use Rattle.md_world.proofs.Row.TheSendSync as row_sent
+use Rattle.md_store.proofs.store.Store.TheSendSync as store_sent
 use Rattle.md_query.proofs.Crossing.{query_sends}
-use Rattle.md_hub.proofs.desk.OpenTicket.TheSendSync as ticket_sent
-use Rattle.md_hub.proofs.stamps.StampKey.TheSendSync as stamp_sent
 use Rattle.md_hub.specs.contracts.query.LiveQuery as live
 use Rattle.md_hub.specs.contracts.query.LiveQuery.TheInside as live_inside
 use Rattle.md_hub.specs.contracts.hub.Hub as hub
@@ -27,27 +23,7 @@ live_sends = search (view_send, live_inside_sends)
 hub_inside_sends : IsSend hub_inside.the_row
 hub_inside_sends =
     recorded_send (hub_inside.the_field).row _ _ (hub_inside.the_type).to_one
-    (
-    struct_send (struct.shape hub_inside.the_type) (
-      limits_sent.the_field_send,
-      (
-        plain_send _ _ _ _ _,
-        (
-          search (sendable, vec_sent.the_send, row_sent.the_send, heap_sent.the_send, frees) depth 8,
-          (
-            plain_send _ _ _ _ _,
-            (
-              search (sendable, vec_sent.the_send, ticket_sent.the_send, heap_sent.the_send, frees) depth 8,
-              (
-                search (sendable, map_sent.the_send, stamp_sent.the_send, heap_sent.the_send, frees) depth 20,
-                (search (sendable, vec_sent.the_send, live_sends, heap_sent.the_send, frees) depth 8, tt),
-              ),
-            ),
-          ),
-        ),
-      ),
-    )
-    )
+    (struct_send (struct.shape hub_inside.the_type) (store_sent.the_send, (search (sendable, vec_sent.the_send, live_sends, heap_sent.the_send, frees) depth 8, tt)))
 
 pub hub_sends : IsSend hub.the_row
 hub_sends = search (view_send, hub_inside_sends)

@@ -1,10 +1,14 @@
-pub mod Editing
 mod Hits
-pub mod Placing
-pub mod Stamping
-pub mod Stepping
-pub mod Fewer
-pub mod Alike
+mod Fewer
+mod Alike
+mod Placing
+mod Living
+mod Tying
+mod Pinning
+mod Answering
+mod Stepping
 pub mod Sound
+mod Keeping
+mod Counting
 pub mod Refused
 pub mod Crossing

@@ -1,10 +1,8 @@
-pub mod Asked
 pub mod Places
 pub mod States
-pub mod Verdicts
-pub mod Stamps
+pub mod Pinned
+pub mod Asked
 pub mod Stepping
 pub mod Sound
-pub mod Edits
 pub mod Received
 pub mod Given

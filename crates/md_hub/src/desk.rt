@@ -1,86 +1,73 @@
-// Open tickets.
-ghost use Rattle.std.specs.Prelude.{◌≡◌, ◌==◌, ◌≤◌, ◌++◌, ◌∷◌, [], OnOk, OnErr, length};
-ghost use Rattle.std.specs.Option.{option_copied};
-ghost use Rattle.md_machine.specs.States.{ticket_at, without_ticket};
+// Tickets, commits and vacuums, as the machine's steps.
+ghost use Rattle.std.specs.Prelude.{◌≡◌, List, IfOk, OnOk, OnErr, true, false};
+ghost use Rattle.std.specs.List.{AllByRecursion};
+ghost use Rattle.md_machine.specs.Replies.{delivers, takes_memory};
+ghost use Rattle.md_machine.specs.States.{Query};
+ghost use Rattle.md_machine.specs.Steps.{step};
+ghost use Rattle.md_store.specs.Stores.{is_shown};
+ghost use Rattle.md_hub.specs.States.{state_of};
+ghost use Rattle.md_hub.specs.Pinned.{AreMade};
 
-use crate::stamps::StampKey;
-use md_value::{Copied, Path};
-use std::alloc::{AllocError, Global};
-use std::marker::Model;
+use md_machine::{Event, Reply};
+use md_store::{DrawEnd, ReadyEnd, Store};
+use md_value::Path;
+use md_world::Change;
+use std::alloc::AllocError;
 
-/// An open ticket.
-#[derive(Debug, Drop)]
-pub struct OpenTicket {
-    number: u32,
-    key: StampKey,
-}
-
-impl Model for OpenTicket {
-    ghost use Rattle.md_machine.specs.States.{Ticket};
-
-    ghost Value = { Ticket };
-
-    ghost view = { λ t. record { number = t.number; path = t.key } };
-}
-
-impl OpenTicket {
-    fn is(&self, number: u32) -> bool
-        ensures { result ≡ (self.now.number == number) }
-    {
-        self.number == number
-    }
-
-    pub fn number(&self) -> u32
-        ensures { result ≡ self.now.number }
-    {
-        self.number
-    }
-
-    pub fn path(&self) -> &Path
-        ensures { result.now ≡ self.now.path }
-    {
-        self.key.path()
-    }
-
-    /// Its path, as a stamp's.
-    pub fn key(&self) -> &StampKey
-        ensures { result.now ≡ self.now.path }
-    {
-        &self.key
-    }
-}
-
-/// The open ticket of this number.
-pub fn ticket_at(tickets: &[OpenTicket], number: u32) -> Option<&OpenTicket>
-    ensures { option_copied result ≡ ticket_at tickets.now number }
+/// Draws a ticket.
+pub fn draw(store: &mut Store, path: &Path) -> Result<Reply, AllocError>
+    ensures reply { (queries : List Query) → IfOk result (λ r. r ≡ (step (state_of store.old queries) (Event.Draw path.now)).reply) }
+    ensures state { (queries : List Query) → OnOk result (state_of store.new queries ≡ (step (state_of store.old queries) (Event.Draw path.now)).state) }
+    ensures pins { store.new.pins ≡ store.old.pins }
+    ensures err { OnErr result (store.new ≡ store.old) }
+    ensures memory { (queries : List Query) → OnErr result (takes_memory (step (state_of store.old queries) (Event.Draw path.now)).reply ≡ true) }
+    ensures plain { IfOk result (λ r. delivers r ≡ false) }
 {
-    for ticket in tickets {
-        if ticket.is(number) {
-            return Some(ticket);
+    match store.draw_ticket(path) {
+        Ok(number) => Ok(Reply::Ticket(number)),
+        Err(DrawEnd::TicketsSpent) => Ok(Reply::TicketsSpent),
+        Err(DrawEnd::Memory) => Err(AllocError),
+    }
+}
+
+/// Commits a change for a ticket, where no query speaks of a version that is not made yet.
+pub fn commit(store: &mut Store, number: u32, change: &Change) -> Result<Reply, AllocError>
+    ensures reply { (queries : List Query) → IfOk result (λ r. r ≡ (step (state_of store.old queries) (Event.Commit number change.now)).reply) }
+    ensures state { (queries : List Query) → AreMade store.old.version queries → OnOk result (state_of store.new queries ≡ (step (state_of store.old queries) (Event.Commit number change.now)).state) }
+    ensures pins { store.new.pins ≡ store.old.pins }
+    ensures err { OnErr result (store.new ≡ store.old) }
+    ensures memory { (queries : List Query) → OnErr result (takes_memory (step (state_of store.old queries) (Event.Commit number change.now)).reply ≡ true) }
+    ensures plain { IfOk result (λ r. delivers r ≡ false) }
+{
+    match store.ready(number, change) {
+        Ok(ready) => Ok(Reply::Committed(store.apply(ready))),
+        Err(ReadyEnd::NoTicket) => Ok(Reply::NoTicket),
+        Err(ReadyEnd::Superseded(newer)) => {
+            close(store, number);
+            Ok(Reply::Superseded(newer))
         }
+        Err(ReadyEnd::StoreFull) => Ok(Reply::StoreFull),
+        Err(ReadyEnd::Memory) => Err(AllocError),
     }
-    None
 }
 
-/// Opens a ticket.
-pub fn open(
-    alloc: Global,
-    tickets: &mut Vec<OpenTicket>,
-    number: u32,
-    path: &Path,
-) -> Result<(), AllocError>
-    ensures ok { OnOk result (tickets.new.items ≡ tickets.old.items ++ record { number = number; path = path.now } ∷ []) }
-    ensures err { OnErr result (tickets.new.items ≡ tickets.old.items) }
+/// Closes a ticket.
+pub fn close(store: &mut Store, number: u32) -> Reply
+    ensures reply { (queries : List Query) → result ≡ (step (state_of store.old queries) (Event.Close number)).reply }
+    ensures state { (queries : List Query) → state_of store.new queries ≡ (step (state_of store.old queries) (Event.Close number)).state }
+    ensures pins { store.new.pins ≡ store.old.pins }
+    ensures plain { delivers result ≡ false }
 {
-    let key = StampKey::new(path.copy(alloc)?);
-    tickets.push(OpenTicket { number, key })?;
-    Ok(())
+    match store.close_ticket(number) {
+        Ok(()) => Reply::Closed,
+        Err(_) => Reply::NoTicket,
+    }
 }
 
-/// Closes a ticket. Cannot fail.
-pub fn close(tickets: &mut Vec<OpenTicket>, number: u32)
-    ensures open { tickets.new.items ≡ without_ticket tickets.old.items number }
-    ensures fewer { length tickets.new.items ≤ length tickets.old.items }
+/// Gives up the rows that no version shows that can be read, where each query's base is one.
+pub fn vacuum(store: &mut Store)
+    ensures state { (queries : List Query) → AllByRecursion (λ (q : Query). is_shown store.old q.base ≡ true) queries → state_of store.new queries ≡ state_of store.old queries }
+    ensures pins { store.new.pins ≡ store.old.pins }
 {
-    tickets.retain(|ticket| !ticket.is(number));
+    store.vacuum();
 }

@@ -1,57 +1,36 @@
 // The server: tickets, versions and queries, one event at a time.
-ghost use Rattle.std.specs.Prelude.{◌≡◌, IfOk, IfSome, OnOk, OnErr, true, false};
+ghost use Rattle.std.specs.Prelude.{◌≡◌, ◌≤◌, length, IfOk, IfSome, OnOk, OnErr, true, false};
 ghost use Rattle.md_machine.specs.Replies.{delivers, takes_memory};
-ghost use Rattle.md_machine.specs.States.{opening, ticket_at, query_at};
+ghost use Rattle.md_machine.specs.States.{opening, query_at};
 ghost use Rattle.md_machine.specs.Steps.{step, outcome_of};
 ghost use Rattle.std.specs.Option.{option_map};
 ghost use Rattle.md_world.specs.Tables.{IsTable};
 ghost use Rattle.md_query.specs.Asked.{answered};
 ghost use Rattle.md_hub.specs.Given.{given_by};
-ghost use Rattle.md_hub.specs.Verdicts.{verdict_of};
 ghost use Rattle.md_hub.specs.Stepping.{IsStep};
 
-use crate::desk::{self, OpenTicket};
-use crate::queries::{self, Call};
+use crate::asks::{self, Call};
 use crate::query::LiveQuery;
-use crate::stamps::{self, Stamps};
-use crate::{Held, edits};
+use crate::{Held, desk, queries};
 use md_machine::{Event, Reply, Spec};
-use md_query::{Ask, copy_rows};
-use md_value::{Copied, Path};
+use md_query::{Ask, copy_rows, read};
+use md_store::Store;
+use md_value::Path;
 use md_world::{Change, Limits, Row};
 use std::alloc::{AllocError, Global};
 use std::marker::Model;
 
-/// What becomes of a commit.
-#[derive(Clone, Copy, Debug, Drop)]
-pub enum Verdict {
-    /// No ticket of its number is open.
-    NoTicket,
-    /// This newer ticket of its path was committed before.
-    Superseded(u32),
-    /// No path more may be committed.
-    Full,
-    /// It makes the next version.
-    Fits,
-}
-
-/// A server that keeps whole tables.
+/// A server over a store of versions, in which the base of each live query is pinned.
 #[derive(Drop)]
 pub struct Hub {
-    limits: Limits,
-    version: u32,
-    table: Vec<Row>,
-    drawn: u32,
-    tickets: Vec<OpenTicket>,
-    stamps: Stamps,
+    store: Store,
     queries: Vec<LiveQuery>,
 }
 
 impl Model for Hub {
     ghost use Rattle.md_machine.specs.States.{State};
-    ghost use Rattle.md_hub.specs.Stamps.{stamps_of};
     ghost use Rattle.md_hub.specs.States.{state_of};
-    ghost use Rattle.md_hub.specs.Sound.{IsSound};
+    ghost use Rattle.md_hub.specs.Sound.{IsKept};
 
     ghost Value = { State };
 
@@ -60,9 +39,9 @@ impl Model for Hub {
 
     ghost coded = { Prim.hlevel (codes, expr.the_row.coded) };
 
-    ghost view = { λ h. state_of h.limits h.version h.table.items h.drawn h.tickets.items (stamps_of h.stamps.entries) h.queries.items };
+    ghost view = { λ h. state_of h.store h.queries.items };
 
-    ghost invariant = { λ h. IsSound h.limits (state_of h.limits h.version h.table.items h.drawn h.tickets.items (stamps_of h.stamps.entries) h.queries.items) };
+    ghost invariant = { λ h. IsKept h.store h.queries.items };
 }
 
 impl Hub {
@@ -71,95 +50,29 @@ impl Hub {
         ensures { result ≡ opening limits }
     {
         Hub {
-            limits,
-            version: 0,
-            table: Vec::new(alloc),
-            drawn: 0,
-            tickets: Vec::new(alloc),
-            stamps: Stamps::new(alloc),
+            store: Store::new(alloc, limits),
             queries: Vec::new(alloc),
         }
     }
 
-    fn draw(&mut self, alloc: Global, path: &Path) -> Result<Reply, AllocError>
+    fn draw(&mut self, path: &Path) -> Result<Reply, AllocError>
         ensures reply { IfOk result (λ r. r ≡ (step self.old (Event.Draw path.now)).reply) }
         ensures state { OnOk result (self.new ≡ (step self.old (Event.Draw path.now)).state) }
         ensures err { OnErr result (self.new ≡ self.old) }
         ensures memory { OnErr result (takes_memory (step self.old (Event.Draw path.now)).reply ≡ true) }
         ensures plain { IfOk result (λ r. delivers r ≡ false) }
     {
-        if self.drawn >= self.limits.tickets {
-            return Ok(Reply::TicketsSpent);
-        }
-        let number = self.drawn + 1;
-        desk::open(alloc, &mut self.tickets, number, path)?;
-        self.drawn = number;
-        Ok(Reply::Ticket(number))
+        desk::draw(&mut self.store, path)
     }
 
-    fn verdict(&self, number: u32) -> Verdict
-        ensures { result ≡ verdict_of self.now (ticket_at self.now.tickets number) }
-    {
-        match desk::ticket_at(&self.tickets, number) {
-            None => Verdict::NoTicket,
-            Some(ticket) => match stamps::last_ticket(&self.stamps, ticket.key()) {
-                None => {
-                    if self.stamps.len() < self.limits.paths as usize {
-                        Verdict::Fits
-                    } else {
-                        Verdict::Full
-                    }
-                }
-                Some(newer) => {
-                    if ticket.number() < newer {
-                        Verdict::Superseded(newer)
-                    } else {
-                        Verdict::Fits
-                    }
-                }
-            },
-        }
-    }
-
-    fn apply(&mut self, alloc: Global, number: u32, change: &Change) -> Result<Reply, AllocError>
-        requires { verdict_of self.old (ticket_at self.old.tickets number) ≡ Verdict.Fits }
+    fn commit(&mut self, number: u32, change: &Change) -> Result<Reply, AllocError>
         ensures reply { IfOk result (λ r. r ≡ (step self.old (Event.Commit number change.now)).reply) }
         ensures state { OnOk result (self.new ≡ (step self.old (Event.Commit number change.now)).state) }
         ensures err { OnErr result (self.new ≡ self.old) }
         ensures memory { OnErr result (takes_memory (step self.old (Event.Commit number change.now)).reply ≡ true) }
         ensures plain { IfOk result (λ r. delivers r ≡ false) }
     {
-        match desk::ticket_at(&self.tickets, number) {
-            None => Ok(Reply::NoTicket),
-            Some(ticket) => {
-                let path = ticket.path();
-                let key = ticket.key().copy(alloc)?;
-                self.stamps.reserve(1)?;
-                edits::apply(alloc, &mut self.table, path, change)?;
-                stamps::set(&mut self.stamps, key, number);
-                desk::close(&mut self.tickets, number);
-                self.version += 1;
-                Ok(Reply::Committed(self.version))
-            }
-        }
-    }
-
-    fn commit(&mut self, alloc: Global, number: u32, change: &Change) -> Result<Reply, AllocError>
-        ensures reply { IfOk result (λ r. r ≡ (step self.old (Event.Commit number change.now)).reply) }
-        ensures state { OnOk result (self.new ≡ (step self.old (Event.Commit number change.now)).state) }
-        ensures err { OnErr result (self.new ≡ self.old) }
-        ensures memory { OnErr result (takes_memory (step self.old (Event.Commit number change.now)).reply ≡ true) }
-        ensures plain { IfOk result (λ r. delivers r ≡ false) }
-    {
-        match self.verdict(number) {
-            Verdict::NoTicket => Ok(Reply::NoTicket),
-            Verdict::Superseded(newer) => {
-                desk::close(&mut self.tickets, number);
-                Ok(Reply::Superseded(newer))
-            }
-            Verdict::Full => Ok(Reply::StoreFull),
-            Verdict::Fits => self.apply(alloc, number, change),
-        }
+        desk::commit(&mut self.store, number, change)
     }
 
     fn close(&mut self, number: u32) -> Reply
@@ -167,13 +80,7 @@ impl Hub {
         ensures state { self.new ≡ (step self.old (Event.Close number)).state }
         ensures plain { delivers result ≡ false }
     {
-        match desk::ticket_at(&self.tickets, number) {
-            None => Reply::NoTicket,
-            Some(_) => {
-                desk::close(&mut self.tickets, number);
-                Reply::Closed
-            }
-        }
+        desk::close(&mut self.store, number)
     }
 
     fn create(
@@ -192,12 +99,20 @@ impl Hub {
         if queries::is_live(&self.queries, client, number) {
             return Ok(Reply::Taken);
         }
-        if queries::count_of(&self.queries, client) >= self.limits.queries as usize {
+        let most = self.store.limits().queries as usize;
+        if queries::count_of(&self.queries, client) >= most {
             return Ok(Reply::TooMany);
         }
-        let query = LiveQuery::new(alloc, client, number, spec, self.version, &self.table)?;
-        self.queries.push(query)?;
-        Ok(Reply::Created(self.version))
+        let newest = self.store.version();
+        asks::create(
+            alloc,
+            &mut self.queries,
+            &mut self.store,
+            client,
+            number,
+            spec,
+        )?;
+        Ok(Reply::Created(newest))
     }
 
     fn ask(&mut self, alloc: Global, call: Call) -> Result<Reply, AllocError>
@@ -206,16 +121,7 @@ impl Hub {
         ensures err { OnErr result (self.new ≡ self.old) }
         ensures memory { OnErr result (takes_memory (outcome_of self.old (answered self.old call.ask call.now_ms) (query_at self.old.queries call.client call.number)).reply ≡ true) }
     {
-        let limits = self.limits;
-        let reply = queries::ask(
-            alloc,
-            &mut self.queries,
-            call,
-            self.version,
-            &self.table,
-            &limits,
-        )?;
-        Ok(reply)
+        asks::ask(alloc, &mut self.queries, &mut self.store, call)
     }
 
     fn ask_twice(&mut self, alloc: Global, call: Call) -> Result<(Reply, Reply), AllocError>
@@ -225,16 +131,7 @@ impl Hub {
         ensures err { OnErr result (self.new ≡ self.old) }
         ensures memory { OnErr result (takes_memory (outcome_of self.old (answered self.old call.ask call.now_ms) (query_at self.old.queries call.client call.number)).reply ≡ true) }
     {
-        let limits = self.limits;
-        let reply = queries::ask_twice(
-            alloc,
-            &mut self.queries,
-            call,
-            self.version,
-            &self.table,
-            &limits,
-        )?;
-        Ok(reply)
+        asks::ask_twice(alloc, &mut self.queries, &mut self.store, call)
     }
 
     fn stop(&mut self, client: u8, number: u32) -> Reply
@@ -242,12 +139,20 @@ impl Hub {
         ensures state { self.new ≡ (step self.old (Event.Stop client number)).state }
         ensures plain { delivers result ≡ false }
     {
-        if queries::is_live(&self.queries, client, number) {
-            queries::take_out(&mut self.queries, client, number);
+        if asks::stop(&mut self.queries, &mut self.store, client, number) {
             Reply::Stopped
         } else {
             Reply::NoQuery
         }
+    }
+
+    // Gives up the rows that neither the newest version nor a query's base shows.
+    fn vacuum(&mut self) -> Reply
+        ensures reply { result ≡ Reply.Vacuumed }
+        ensures state { self.new ≡ self.old }
+    {
+        desk::vacuum(&mut self.store);
+        Reply::Vacuumed
     }
 
     fn answer(&mut self, alloc: Global, event: &Event) -> Result<Reply, AllocError>
@@ -257,8 +162,8 @@ impl Hub {
         ensures memory { OnErr result (takes_memory (step self.old event.now).reply ≡ true) }
     {
         match event {
-            Event::Draw { path } => self.draw(alloc, path),
-            Event::Commit { ticket, change } => self.commit(alloc, *ticket, change),
+            Event::Draw { path } => self.draw(path),
+            Event::Commit { ticket, change } => self.commit(*ticket, change),
             Event::Close { ticket } => Ok(self.close(*ticket)),
             Event::Create {
                 client,
@@ -284,7 +189,7 @@ impl Hub {
                 now_ms,
             } => self.ask(alloc, call(*client, *number, Ask::Poll, *now_ms)),
             Event::Stop { client, number } => Ok(self.stop(*client, *number)),
-            Event::Vacuum { .. } => Ok(Reply::Vacuumed),
+            Event::Vacuum { .. } => Ok(self.vacuum()),
         }
     }
 
@@ -297,8 +202,8 @@ impl Hub {
         ensures memory { OnErr result (takes_memory (step self.old event.now).reply ≡ true) }
     {
         match event {
-            Event::Draw { path } => Ok(twice(self.draw(alloc, path)?)),
-            Event::Commit { ticket, change } => Ok(twice(self.commit(alloc, *ticket, change)?)),
+            Event::Draw { path } => Ok(twice(self.draw(path)?)),
+            Event::Commit { ticket, change } => Ok(twice(self.commit(*ticket, change)?)),
             Event::Close { ticket } => Ok(twice(self.close(*ticket))),
             Event::Create {
                 client,
@@ -324,7 +229,7 @@ impl Hub {
                 now_ms,
             } => self.ask_twice(alloc, call(*client, *number, Ask::Poll, *now_ms)),
             Event::Stop { client, number } => Ok(twice(self.stop(*client, *number))),
-            Event::Vacuum { .. } => Ok((Reply::Vacuumed, Reply::Vacuumed)),
+            Event::Vacuum { .. } => Ok(twice(self.vacuum())),
         }
     }
 
@@ -332,7 +237,14 @@ impl Hub {
     pub fn version(&self) -> u32
         ensures { result ≡ self.now.version }
     {
-        self.version
+        self.store.version()
+    }
+
+    /// How many rows the store keeps, of all versions.
+    pub fn kept(&self) -> usize
+        ensures { length self.now.table ≤ result }
+    {
+        self.store.kept()
     }
 
     /// A copy of the newest table, in path order. Fails only where memory runs out.
@@ -340,7 +252,8 @@ impl Hub {
         ensures rows { IfOk result (λ rows. rows.items ≡ self.now.table) }
         ensures ordered { IfOk result (λ rows. IsTable rows.items) }
     {
-        copy_rows(alloc, &self.table)
+        let rows = read(alloc, &self.store, self.store.version())?;
+        copy_rows(alloc, &rows)
     }
 
     /// The reply to an event. Where memory runs out it is `Memory`, and nothing has changed.
@@ -359,7 +272,7 @@ impl Hub {
         ensures given { IfOk result (λ held. held ≡ option_map given_by (query_at self.now.queries client number)) }
         ensures ordered { IfOk result (λ held. IfSome held (λ given. IsTable given.rows)) }
     {
-        queries::held(alloc, &self.queries, client, number)
+        asks::held(alloc, &self.queries, &self.store, client, number)
     }
 }
 

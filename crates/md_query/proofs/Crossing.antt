@@ -2,9 +2,6 @@
 
 use denote.Struct.Declared as struct
 use denote.Param.Send.{IsSend, plain_send, struct_send, recorded_send, view_send}
-use Rattle.md_value.proofs.items.Items.TheSendSync as items_sent
-use Rattle.md_world.specs.contracts.Row as row
-use Rattle.md_world.proofs.Row.TheSendSync as row_sent
 use Rattle.md_match.proofs.Crossing.{filter_sends}
 use Rattle.md_machine.proofs.Crossing.{spec_field_sends}
 use Rattle.md_query.proofs.query.Progressed.TheSendSync as progressed_sent
@@ -14,7 +11,7 @@ use Rattle.md_query.specs.contracts.query.Query.TheInside as inside
 inside_sends : IsSend inside.the_row
 inside_sends =
     recorded_send (inside.the_field).row _ _ (inside.the_type).to_one
-    (struct_send (struct.shape inside.the_type) (spec_field_sends, (filter_sends, (progressed_sent.the_field_send, (plain_send _ _ _ _ _, (items_sent.the_send row.the_row row_sent.the_send, (plain_send _ _ _ _ _, (plain_send _ _ _ _ _, tt))))))))
+    (struct_send (struct.shape inside.the_type) (spec_field_sends, (filter_sends, (progressed_sent.the_field_send, (plain_send _ _ _ _ _, (plain_send _ _ _ _ _, (plain_send _ _ _ _ _, tt)))))))
 
 pub query_sends : IsSend query.the_row
 query_sends = search (view_send, inside_sends)

@@ -1,3 +1,4 @@
 pub mod Hits
 pub mod Keys
 pub mod Crossing
+mod Turns

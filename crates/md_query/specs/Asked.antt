@@ -8,12 +8,18 @@ use Rattle.md_query.specs.declared.asking.Ask.{Ask}
 use Rattle.md_query.specs.declared.asking.Ask.TheVariants as ask
 use Rattle.md_query.specs.declared.asking.Effect.{Effect}
 use Rattle.md_query.specs.declared.asking.Effect.TheVariants as effect
+use Rattle.md_store.specs.Places.{table_at}
+use Rattle.md_store.specs.Stores.{Stored}
 use Rattle.md_query.specs.Standings.{Standing}
 
 -- a state of which only the limits and the newest version are known
 abbrev pub newest_state : Limits → ℕ → List Row → State
 newest_state limits version table =
     record { limits = limits; version = version; table = table; drawn = 0; tickets = []; stamps = []; queries = [] }
+
+-- the newest version of a store, as such a state
+abbrev pub newest_of : Limits → Stored → State
+newest_of limits s = newest_state limits s.version (table_at s.places s.version)
 
 -- what a query answers, at this state and moment
 abbrev pub answered : State → Ask → ℕ → Query → Answered
@@ -28,4 +34,4 @@ settled q effect.Keep = q
 settled q (effect.Give given) = record q { phase = Gathering given }
 settled q (effect.Finish now) = record q { phase = Finished; delivered = now }
 settled q (effect.Count count) = record q { disables = count }
-settled q (effect.Deliver base rows now) = record q { base = base; rows = rows; disables = 0; delivered = now }
+settled q (effect.Deliver base now) = record q { base = base; disables = 0; delivered = now }

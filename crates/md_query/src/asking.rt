@@ -3,7 +3,6 @@ ghost use Rattle.std.specs.Prelude.{◌≡◌};
 ghost use Rattle.md_machine.specs.Steps.{most_hits, reaches, is_due};
 
 use md_machine::{Batch, Reply};
-use md_world::Rows;
 
 /// What a query is asked.
 #[derive(Clone, Copy, Debug, Drop)]
@@ -29,20 +28,12 @@ pub enum Effect {
     Finish(u64),
     /// So many disables are not matched.
     Count(u32),
-    /// This version and its table are the base, delivered at this moment with no disable left.
-    Deliver(u32, Rows, u64),
+    /// This version is the base, delivered at this moment with no disable left.
+    Deliver(u32, u64),
 }
 
 /// A reply with its effect.
 pub(crate) type Answer = (Reply, Effect);
-
-/// An answer that leaves the query as it is.
-pub(crate) fn kept(reply: Reply) -> Answer
-    ensures reply { result.0 ≡ reply }
-    ensures effect { result.1 ≡ Effect.Keep }
-{
-    (reply, Effect::Keep)
-}
 
 /// The greatest number of hits in the next part, after so many were given.
 pub(crate) fn most_hits(batch: &Batch, given: usize) -> Option<u32>

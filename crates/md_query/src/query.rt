@@ -1,5 +1,5 @@
 // One query: what it answers when it is asked, and what that makes of it.
-ghost use Rattle.std.specs.Prelude.{◌≡◌, ℕ, ◌==◌, ◌≤◌, ◌<◌, ◌+◌, ◌^◌, IfOk, OnErr, Bool, true, false, take, drop, map, length};
+ghost use Rattle.std.specs.Prelude.{◌≡◌, ℕ, List, ◌≤◌, ◌<◌, ◌+◌, ◌^◌, IfOk, OnErr, true, false, take, drop, map, length};
 ghost use Rattle.md_machine.specs.Answers.{answer, shown_answer, diff, notice_of, condition_of};
 ghost use Rattle.md_machine.specs.Laws.{hits_given};
 ghost use Rattle.md_machine.specs.Replies.{takes_memory};
@@ -9,12 +9,16 @@ ghost use Rattle.md_world.specs.Tables.{shown};
 ghost use Rattle.md_world.specs.Differences.{items_of};
 ghost use Rattle.md_query.specs.Rows.{rows_of};
 ghost use Rattle.md_query.specs.Standings.{query_of, nameless, is_finished};
-ghost use Rattle.md_query.specs.Asked.{newest_state, answered, settled};
+ghost use Rattle.md_store.specs.Places.{Place, table_at};
+ghost use Rattle.md_store.specs.Stores.{is_shown};
+ghost use Rattle.md_query.specs.Asked.{newest_of, answered, settled};
 
-use crate::asking::{self, Answer, Ask, Effect, kept};
+use crate::asking::{self, Answer, Ask, Effect};
+use crate::reading::read;
 use crate::tables;
 use md_machine::{Reply, Spec};
 use md_match::Filter;
+use md_store::Store;
 use md_value::Items;
 use md_world::{Limits, Order, Row, Rows};
 use std::alloc::{AllocError, Global};
@@ -27,14 +31,14 @@ pub enum Progressed {
     Finished,
 }
 
-/// A live query that holds its whole base table. Contracts see all that the machine's query is but its client and number.
+/// A live query, whose base is a version that a store has. Contracts see all that the machine's query is but its client, its
+/// number and its base's table.
 #[derive(Drop)]
 pub struct Query {
     spec: Spec,
     filter: Filter,
     phase: Progressed,
     base: u32,
-    rows: Rows,
     disables: u32,
     delivered: u64,
 }
@@ -49,7 +53,7 @@ impl Model for Query {
 
     ghost coded = { Prim.hlevel (codes, expr.the_row.coded) };
 
-    ghost view = { λ q. record { spec = q.spec; phase = phase_of q.phase; base = q.base; rows = q.rows; disables = q.disables; delivered = q.delivered } };
+    ghost view = { λ q. record { spec = q.spec; phase = phase_of q.phase; base = q.base; disables = q.disables; delivered = q.delivered } };
 
     ghost use Rattle.std.specs.Prelude.{◌≡◌};
     ghost use Rattle.md_machine.specs.Answers.{condition_of};
@@ -58,17 +62,16 @@ impl Model for Query {
 }
 
 impl Query {
-    /// A query of this spec that has given nothing, and whose base is this version with this table. Takes no memory.
-    pub fn start(spec: Spec, filter: Filter, base: Vec<Row>, version: u32) -> Query
+    /// A query of this spec that has given nothing, and whose base is this version. Takes no memory.
+    pub fn start(spec: Spec, filter: Filter, version: u32) -> Query
         requires { filter ≡ condition_of spec }
-        ensures { result ≡ record { spec = spec; phase = Gathering 0; base = version; rows = base.items; disables = 0; delivered = 0 } }
+        ensures { result ≡ record { spec = spec; phase = Gathering 0; base = version; disables = 0; delivered = 0 } }
     {
         Query {
             spec,
             filter,
             phase: Progressed::Gathering(0),
             base: version,
-            rows: Items::from_vec(base),
             disables: 0,
             delivered: 0,
         }
@@ -105,12 +108,19 @@ impl Query {
         &self.spec.order
     }
 
-    // The rows of a table that the query asks for.
+    // The rows of a version that the query asks for.
     #[tactic(auto, using(crate::proofs::Hits::passes_answer))]
-    fn hits<'a>(&self, alloc: Global, table: &'a [Row]) -> Result<Vec<&'a Row>, AllocError>
-        ensures { IfOk result (λ hits. rows_of hits.items ≡ answer self.now.spec table.now) }
+    fn hits<'a>(
+        &self,
+        alloc: Global,
+        store: &'a Store,
+        version: u32,
+    ) -> Result<Vec<&'a Row>, AllocError>
+        requires { is_shown store.now version ≡ true }
+        ensures { IfOk result (λ hits. rows_of hits.items ≡ answer self.now.spec (table_at store.now.places version)) }
     {
-        tables::passing(alloc, &self.filter, table)
+        let rows = read(alloc, store, version)?;
+        tables::passing(alloc, &self.filter, &rows)
     }
 
     // Those of its hits that are given, as they are shown.
@@ -125,16 +135,17 @@ impl Query {
     }
 
     /// What it has given: the hits so far while it gathers, and then all. Fails only where memory runs out.
-    pub fn held(&self, alloc: Global) -> Result<Rows, AllocError>
-        ensures { IfOk result (λ rows. rows ≡ hits_given self.now.phase (shown_answer self.now.spec self.now.rows)) }
+    pub fn held(&self, alloc: Global, store: &Store) -> Result<Rows, AllocError>
+        requires { is_shown store.now self.now.base ≡ true }
+        ensures { IfOk result (λ rows. rows ≡ hits_given self.now.phase (shown_answer self.now.spec (table_at store.now.places self.now.base))) }
     {
-        let hits = self.hits(alloc, self.rows.as_slice())?;
+        let hits = self.hits(alloc, store, self.base)?;
         Ok(Items::from_vec(self.given(alloc, &hits)?))
     }
 
     fn last_part(&self, alloc: Global, left: &[&Row], now_ms: u64) -> Result<Answer, AllocError>
-        ensures reply { IfOk result (λ a. a.0 ≡ (last_part (nameless self.now) (map shown (rows_of left.now)) now_ms).reply) }
-        ensures query { IfOk result (λ a. nameless (settled self.now a.1) ≡ (last_part (nameless self.now) (map shown (rows_of left.now)) now_ms).query) }
+        ensures reply { IfOk result (λ a. a.0 ≡ Reply.Finished (record { hits = map shown (rows_of left.now); last = true }) self.now.base) }
+        ensures query { (places : List Place) → IfOk result (λ a. nameless places (settled self.now a.1) ≡ (last_part (nameless places self.now) (map shown (rows_of left.now)) now_ms).query) }
     {
         let part = tables::part(alloc, left, true)?;
         Ok((Reply::Finished(part, self.base), Effect::Finish(now_ms)))
@@ -151,7 +162,7 @@ impl Query {
         requires enough { most ≤ length left.now }
         requires room { given + most < 2 ^ 64 }
         ensures reply { IfOk result (λ a. a.0 ≡ Reply.Progress (record { hits = take most (map shown (rows_of left.now)); last = false })) }
-        ensures query { IfOk result (λ a. nameless (settled self.now a.1) ≡ record (nameless self.now) { phase = Gathering (given + most) }) }
+        ensures query { (places : List Place) → IfOk result (λ a. nameless places (settled self.now a.1) ≡ record (nameless places self.now) { phase = Gathering (given + most) }) }
     {
         let part = tables::part(alloc, &left[..most], false)?;
         Ok((Reply::Progress(part), Effect::Give(given + most)))
@@ -165,8 +176,8 @@ impl Query {
         now_ms: u64,
     ) -> Result<Answer, AllocError>
         requires { 0 < length left.now → given + length left.now < 2 ^ 64 }
-        ensures reply { IfOk result (λ a. a.0 ≡ (next_part (nameless self.now) given (map shown (rows_of left.now)) (most_hits self.now.spec.batch given) now_ms).reply) }
-        ensures query { IfOk result (λ a. nameless (settled self.now a.1) ≡ (next_part (nameless self.now) given (map shown (rows_of left.now)) (most_hits self.now.spec.batch given) now_ms).query) }
+        ensures reply { (places : List Place) → IfOk result (λ a. a.0 ≡ (next_part (nameless places self.now) given (map shown (rows_of left.now)) (most_hits self.now.spec.batch given) now_ms).reply) }
+        ensures query { (places : List Place) → IfOk result (λ a. nameless places (settled self.now a.1) ≡ (next_part (nameless places self.now) given (map shown (rows_of left.now)) (most_hits self.now.spec.batch given) now_ms).query) }
     {
         match asking::most_hits(&self.spec.batch, given) {
             Some(most) if most as usize <= left.len() => {
@@ -177,70 +188,72 @@ impl Query {
     }
 
     #[tactic(auto, using(crate::proofs::Hits::shown_left))]
-    fn next_part(&self, alloc: Global, given: usize, now_ms: u64) -> Result<Answer, AllocError>
-        ensures reply { IfOk result (λ a. a.0 ≡ (next_part (nameless self.now) given (drop given (shown_answer self.now.spec self.now.rows)) (most_hits self.now.spec.batch given) now_ms).reply) }
-        ensures query { IfOk result (λ a. nameless (settled self.now a.1) ≡ (next_part (nameless self.now) given (drop given (shown_answer self.now.spec self.now.rows)) (most_hits self.now.spec.batch given) now_ms).query) }
-        ensures memory { OnErr result (takes_memory (next_part (nameless self.now) given (drop given (shown_answer self.now.spec self.now.rows)) (most_hits self.now.spec.batch given) now_ms).reply ≡ true) }
+    fn next_part(
+        &self,
+        alloc: Global,
+        given: usize,
+        now_ms: u64,
+        store: &Store,
+    ) -> Result<Answer, AllocError>
+        requires { is_shown store.now self.now.base ≡ true }
+        ensures reply { IfOk result (λ a. a.0 ≡ (next_part (nameless store.now.places self.now) given (drop given (shown_answer self.now.spec (table_at store.now.places self.now.base))) (most_hits self.now.spec.batch given) now_ms).reply) }
+        ensures query { IfOk result (λ a. nameless store.now.places (settled self.now a.1) ≡ (next_part (nameless store.now.places self.now) given (drop given (shown_answer self.now.spec (table_at store.now.places self.now.base))) (most_hits self.now.spec.batch given) now_ms).query) }
+        ensures memory { OnErr result (takes_memory (next_part (nameless store.now.places self.now) given (drop given (shown_answer self.now.spec (table_at store.now.places self.now.base))) (most_hits self.now.spec.batch given) now_ms).reply ≡ true) }
     {
-        let hits = self.hits(alloc, self.rows.as_slice())?;
+        let hits = self.hits(alloc, store, self.base)?;
         let left = tables::hits_after(&hits, given);
         self.part(alloc, given, left, now_ms)
     }
 
-    fn gather(&self, alloc: Global, now_ms: u64) -> Result<Answer, AllocError>
-        ensures reply { IfOk result (λ a. a.0 ≡ (gather (nameless self.now) now_ms).reply) }
-        ensures query { IfOk result (λ a. nameless (settled self.now a.1) ≡ (gather (nameless self.now) now_ms).query) }
-        ensures memory { OnErr result (takes_memory (gather (nameless self.now) now_ms).reply ≡ true) }
+    fn gather(&self, alloc: Global, now_ms: u64, store: &Store) -> Result<Answer, AllocError>
+        requires { is_shown store.now self.now.base ≡ true }
+        ensures reply { IfOk result (λ a. a.0 ≡ (gather (nameless store.now.places self.now) now_ms).reply) }
+        ensures query { IfOk result (λ a. nameless store.now.places (settled self.now a.1) ≡ (gather (nameless store.now.places self.now) now_ms).query) }
+        ensures memory { OnErr result (takes_memory (gather (nameless store.now.places self.now) now_ms).reply ≡ true) }
     {
         match self.phase {
-            Progressed::Finished => Ok(kept(Reply::AlreadyFinished(self.base))),
+            Progressed::Finished => Ok((Reply::AlreadyFinished(self.base), Effect::Keep)),
             Progressed::Gathering(given) => {
                 if self.disables > 0 {
-                    Ok(kept(Reply::Held(self.disables)))
+                    Ok((Reply::Held(self.disables), Effect::Keep))
                 } else {
-                    self.next_part(alloc, given, now_ms)
+                    self.next_part(alloc, given, now_ms, store)
                 }
             }
         }
     }
 
     fn disable(&self, limits: &Limits) -> Answer
-        ensures reply { result.0 ≡ (disable limits.now (nameless self.now)).reply }
-        ensures query { nameless (settled self.now result.1) ≡ (disable limits.now (nameless self.now)).query }
+        ensures reply { (places : List Place) → result.0 ≡ (disable limits.now (nameless places self.now)).reply }
+        ensures query { (places : List Place) → nameless places (settled self.now result.1) ≡ (disable limits.now (nameless places self.now)).query }
     {
         if self.disables < limits.disables {
             let count = self.disables + 1;
             (Reply::Disabled(count), Effect::Count(count))
         } else {
-            kept(Reply::TooDeep)
+            (Reply::TooDeep, Effect::Keep)
         }
     }
 
-    fn deliver(
-        &self,
-        alloc: Global,
-        now_ms: u64,
-        version: u32,
-        table: &[Row],
-    ) -> Result<Answer, AllocError>
-        ensures reply { IfOk result (λ a. a.0 ≡ Reply.Notice (notice_of (diff self.now.spec self.now.rows table.now) self.now.base version)) }
-        ensures query { IfOk result (λ a. nameless (settled self.now a.1) ≡ record (nameless self.now) { base = version; rows = table.now; disables = 0; delivered = now_ms }) }
+    fn deliver(&self, alloc: Global, now_ms: u64, store: &Store) -> Result<Answer, AllocError>
+        requires { is_shown store.now self.now.base ≡ true }
+        ensures reply { IfOk result (λ a. a.0 ≡ Reply.Notice (notice_of (diff self.now.spec (table_at store.now.places self.now.base) (table_at store.now.places store.now.version)) self.now.base store.now.version)) }
+        ensures query { IfOk result (λ a. nameless store.now.places (settled self.now a.1) ≡ record (nameless store.now.places self.now) { base = store.now.version; rows = table_at store.now.places store.now.version; disables = 0; delivered = now_ms }) }
     {
-        let old = self.hits(alloc, self.rows.as_slice())?;
-        let new = self.hits(alloc, table)?;
+        let version = store.version();
+        let old = self.hits(alloc, store, self.base)?;
+        let new = self.hits(alloc, store, version)?;
         let notice = tables::notice(alloc, &old, &new, self.base, version)?;
-        let rows = tables::copy_rows(alloc, table)?;
-        Ok((
-            Reply::Notice(notice),
-            Effect::Deliver(version, Items::from_vec(rows), now_ms),
-        ))
+        Ok((Reply::Notice(notice), Effect::Deliver(version, now_ms)))
     }
 
-    fn count_pending(&self, alloc: Global, table: &[Row]) -> Result<usize, AllocError>
-        ensures { IfOk result (λ items. items ≡ items_of (diff self.now.spec self.now.rows table.now)) }
+    fn count_pending(&self, alloc: Global, store: &Store) -> Result<usize, AllocError>
+        requires { is_shown store.now self.now.base ≡ true }
+        ensures { IfOk result (λ items. items ≡ items_of (diff self.now.spec (table_at store.now.places self.now.base) (table_at store.now.places store.now.version))) }
     {
-        let old = self.hits(alloc, self.rows.as_slice())?;
-        let new = self.hits(alloc, table)?;
+        let version = store.version();
+        let old = self.hits(alloc, store, self.base)?;
+        let new = self.hits(alloc, store, version)?;
         Ok(tables::count_items(&old, &new))
     }
 
@@ -248,16 +261,16 @@ impl Query {
         &self,
         alloc: Global,
         now_ms: u64,
-        version: u32,
-        table: &[Row],
         limits: &Limits,
+        store: &Store,
     ) -> Result<Answer, AllocError>
-        ensures reply { IfOk result (λ a. a.0 ≡ (enable (newest_state limits.now version table.now) (nameless self.now) now_ms).reply) }
-        ensures query { IfOk result (λ a. nameless (settled self.now a.1) ≡ (enable (newest_state limits.now version table.now) (nameless self.now) now_ms).query) }
-        ensures memory { OnErr result (takes_memory (enable (newest_state limits.now version table.now) (nameless self.now) now_ms).reply ≡ true) }
+        requires { is_shown store.now self.now.base ≡ true }
+        ensures reply { IfOk result (λ a. a.0 ≡ (enable (newest_of limits.now store.now) (nameless store.now.places self.now) now_ms).reply) }
+        ensures query { IfOk result (λ a. nameless store.now.places (settled self.now a.1) ≡ (enable (newest_of limits.now store.now) (nameless store.now.places self.now) now_ms).query) }
+        ensures memory { OnErr result (takes_memory (enable (newest_of limits.now store.now) (nameless store.now.places self.now) now_ms).reply ≡ true) }
     {
         if self.disables == 0 {
-            return Ok(kept(Reply::NotDisabled));
+            return Ok((Reply::NotDisabled, Effect::Keep));
         }
         let left = self.disables - 1;
         if left > 0 {
@@ -265,7 +278,7 @@ impl Query {
         }
         match self.phase {
             Progressed::Gathering(_) => Ok((Reply::Resumed, Effect::Count(0))),
-            Progressed::Finished => self.deliver(alloc, now_ms, version, table),
+            Progressed::Finished => self.deliver(alloc, now_ms, store),
         }
     }
 
@@ -273,48 +286,49 @@ impl Query {
         &self,
         alloc: Global,
         now_ms: u64,
-        version: u32,
-        table: &[Row],
         limits: &Limits,
+        store: &Store,
     ) -> Result<Answer, AllocError>
         requires finished { self.now.phase ≡ Finished }
         requires not_held { self.now.disables ≡ 0 }
-        requires few { items_of (diff self.now.spec self.now.rows table.now) ≤ version }
-        ensures reply { IfOk result (λ a. a.0 ≡ (poll (newest_state limits.now version table.now) (nameless self.now) now_ms).reply) }
-        ensures query { IfOk result (λ a. nameless (settled self.now a.1) ≡ (poll (newest_state limits.now version table.now) (nameless self.now) now_ms).query) }
-        ensures memory { OnErr result (takes_memory (poll (newest_state limits.now version table.now) (nameless self.now) now_ms).reply ≡ true) }
+        requires shown { is_shown store.now self.now.base ≡ true }
+        requires few { items_of (diff self.now.spec (table_at store.now.places self.now.base) (table_at store.now.places store.now.version)) ≤ store.now.version }
+        ensures reply { IfOk result (λ a. a.0 ≡ (poll (newest_of limits.now store.now) (nameless store.now.places self.now) now_ms).reply) }
+        ensures query { IfOk result (λ a. nameless store.now.places (settled self.now a.1) ≡ (poll (newest_of limits.now store.now) (nameless store.now.places self.now) now_ms).query) }
+        ensures memory { OnErr result (takes_memory (poll (newest_of limits.now store.now) (nameless store.now.places self.now) now_ms).reply ≡ true) }
     {
-        let items = self.count_pending(alloc, table)?;
+        let _newest = store.version();
+        let items = self.count_pending(alloc, store)?;
         if asking::is_due(
             &self.spec.batch,
             items,
             now_ms.saturating_sub(self.delivered),
         ) {
-            return self.deliver(alloc, now_ms, version, table);
+            return self.deliver(alloc, now_ms, store);
         }
-        Ok(kept(Reply::NotYet(items as u32)))
+        Ok((Reply::NotYet(items as u32), Effect::Keep))
     }
 
     fn poll(
         &self,
         alloc: Global,
         now_ms: u64,
-        version: u32,
-        table: &[Row],
         limits: &Limits,
+        store: &Store,
     ) -> Result<Answer, AllocError>
-        requires { items_of (diff self.now.spec self.now.rows table.now) ≤ version }
-        ensures reply { IfOk result (λ a. a.0 ≡ (poll (newest_state limits.now version table.now) (nameless self.now) now_ms).reply) }
-        ensures query { IfOk result (λ a. nameless (settled self.now a.1) ≡ (poll (newest_state limits.now version table.now) (nameless self.now) now_ms).query) }
-        ensures memory { OnErr result (takes_memory (poll (newest_state limits.now version table.now) (nameless self.now) now_ms).reply ≡ true) }
+        requires shown { is_shown store.now self.now.base ≡ true }
+        requires few { items_of (diff self.now.spec (table_at store.now.places self.now.base) (table_at store.now.places store.now.version)) ≤ store.now.version }
+        ensures reply { IfOk result (λ a. a.0 ≡ (poll (newest_of limits.now store.now) (nameless store.now.places self.now) now_ms).reply) }
+        ensures query { IfOk result (λ a. nameless store.now.places (settled self.now a.1) ≡ (poll (newest_of limits.now store.now) (nameless store.now.places self.now) now_ms).query) }
+        ensures memory { OnErr result (takes_memory (poll (newest_of limits.now store.now) (nameless store.now.places self.now) now_ms).reply ≡ true) }
     {
         match self.phase {
-            Progressed::Gathering(_) => Ok(kept(Reply::NotFinished)),
+            Progressed::Gathering(_) => Ok((Reply::NotFinished, Effect::Keep)),
             Progressed::Finished => {
                 if self.disables > 0 {
-                    Ok(kept(Reply::Held(self.disables)))
+                    Ok((Reply::Held(self.disables), Effect::Keep))
                 } else {
-                    self.poll_finished(alloc, now_ms, version, table, limits)
+                    self.poll_finished(alloc, now_ms, limits, store)
                 }
             }
         }
@@ -326,44 +340,44 @@ impl Query {
         alloc: Global,
         ask: Ask,
         now_ms: u64,
-        newest: u32,
-        table: &[Row],
         limits: &Limits,
+        store: &Store,
     ) -> Result<Answer, AllocError>
-        requires { items_of (diff self.now.spec self.now.rows table.now) ≤ newest }
-        ensures reply { IfOk result (λ a. a.0 ≡ (answered (newest_state limits.now newest table.now) ask now_ms (nameless self.now)).reply) }
-        ensures query { IfOk result (λ a. nameless (settled self.now a.1) ≡ (answered (newest_state limits.now newest table.now) ask now_ms (nameless self.now)).query) }
-        ensures memory { OnErr result (takes_memory (answered (newest_state limits.now newest table.now) ask now_ms (nameless self.now)).reply ≡ true) }
+        requires shown { is_shown store.now self.now.base ≡ true }
+        requires few { items_of (diff self.now.spec (table_at store.now.places self.now.base) (table_at store.now.places store.now.version)) ≤ store.now.version }
+        ensures reply { IfOk result (λ a. a.0 ≡ (answered (newest_of limits.now store.now) ask now_ms (nameless store.now.places self.now)).reply) }
+        ensures query { IfOk result (λ a. nameless store.now.places (settled self.now a.1) ≡ (answered (newest_of limits.now store.now) ask now_ms (nameless store.now.places self.now)).query) }
+        ensures memory { OnErr result (takes_memory (answered (newest_of limits.now store.now) ask now_ms (nameless store.now.places self.now)).reply ≡ true) }
     {
         match ask {
-            Ask::Gather => self.gather(alloc, now_ms),
+            Ask::Gather => self.gather(alloc, now_ms, store),
             Ask::Disable => Ok(self.disable(limits)),
-            Ask::Enable => self.enable(alloc, now_ms, newest, table, limits),
-            Ask::Poll => self.poll(alloc, now_ms, newest, table, limits),
+            Ask::Enable => self.enable(alloc, now_ms, limits, store),
+            Ask::Poll => self.poll(alloc, now_ms, limits, store),
         }
     }
 
-    /// What it answers at this moment, in milliseconds, where `newest` is the newest version's number and `table` its
-    /// table, and what the answer makes of it. Nothing changes.
+    /// What it answers at this moment, in milliseconds, and what the answer makes of it. Nothing changes. The store has its
+    /// base, which is the newest version or is pinned.
     pub fn reply(
         &self,
         alloc: Global,
         ask: Ask,
         now_ms: u64,
-        newest: u32,
-        table: &[Row],
         limits: &Limits,
+        store: &Store,
     ) -> Result<(Reply, Effect), AllocError>
+        requires shown { is_shown store.now self.now.base ≡ true }
         // There are no fewer versions than items that differ from the base.
-        requires { items_of (diff self.now.spec self.now.rows table.now) ≤ newest }
+        requires few { items_of (diff self.now.spec (table_at store.now.places self.now.base) (table_at store.now.places store.now.version)) ≤ store.now.version }
         // The reply is the machine's, whatever the query's client and number.
-        ensures reply { IfOk result (λ a. (client number : ℕ) → a.0 ≡ (answered (newest_state limits.now newest table.now) ask now_ms (query_of client number self.now)).reply) }
+        ensures reply { IfOk result (λ a. (client number : ℕ) → a.0 ≡ (answered (newest_of limits.now store.now) ask now_ms (query_of store.now.places client number self.now)).reply) }
         // The effect makes of the query what the machine makes of it.
-        ensures query { IfOk result (λ a. (client number : ℕ) → query_of client number (settled self.now a.1) ≡ (answered (newest_state limits.now newest table.now) ask now_ms (query_of client number self.now)).query) }
+        ensures query { IfOk result (λ a. (client number : ℕ) → query_of store.now.places client number (settled self.now a.1) ≡ (answered (newest_of limits.now store.now) ask now_ms (query_of store.now.places client number self.now)).query) }
         // Memory runs out at a reply that takes some.
-        ensures memory { OnErr result ((client number : ℕ) → takes_memory (answered (newest_state limits.now newest table.now) ask now_ms (query_of client number self.now)).reply ≡ true) }
+        ensures memory { OnErr result ((client number : ℕ) → takes_memory (answered (newest_of limits.now store.now) ask now_ms (query_of store.now.places client number self.now)).reply ≡ true) }
     {
-        self.answer(alloc, ask, now_ms, newest, table, limits)
+        self.answer(alloc, ask, now_ms, limits, store)
     }
 
     /// Takes an answer's effect over. Cannot fail.
@@ -382,9 +396,8 @@ impl Query {
             Effect::Count(count) => {
                 self.disables = count;
             }
-            Effect::Deliver(base, rows, now_ms) => {
+            Effect::Deliver(base, now_ms) => {
                 self.base = base;
-                self.rows = rows;
                 self.disables = 0;
                 self.delivered = now_ms;
             }

@@ -16,14 +16,14 @@ use std::alloc::{AllocError, Global};
 pub fn passing<'a>(
     alloc: Global,
     condition: &Filter,
-    table: &'a [Row],
+    table: &[&'a Row],
 ) -> Result<Vec<&'a Row>, AllocError>
-    ensures { IfOk result (λ hits. rows_of hits.items ≡ filter (passes condition.now) table.now) }
+    ensures { IfOk result (λ hits. rows_of hits.items ≡ filter (passes condition.now) (rows_of table.now)) }
 {
     let mut hits = Vec::new(alloc);
     for row in table {
         if condition.test(alloc, row)? {
-            hits.push(row)?;
+            hits.push(*row)?;
         }
     }
     Ok(hits)
@@ -182,8 +182,8 @@ pub fn part(alloc: Global, hits: &[&Row], last: bool) -> Result<Part, AllocError
 }
 
 /// A copy of the rows.
-pub fn copy_rows(alloc: Global, table: &[Row]) -> Result<Vec<Row>, AllocError>
-    ensures { IfOk result (λ rows. rows.items ≡ table.now) }
+pub fn copy_rows(alloc: Global, table: &[&Row]) -> Result<Vec<Row>, AllocError>
+    ensures { IfOk result (λ rows. rows.items ≡ rows_of table.now) }
 {
     let mut rows = Vec::new(alloc);
     for row in table {

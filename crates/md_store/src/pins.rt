@@ -46,3 +46,19 @@ pub fn unpin(pins: &mut Vec<u32>, version: u32)
     let place = before(pins, version);
     pins.remove(place);
 }
+
+/// Takes one pin of a version away, and pins another version once more in its place. Takes no memory.
+#[tactic(auto, using(crate::proofs::Pinning::ascend_with))]
+pub fn move_pin(pins: &mut Vec<u32>, from: u32, to: u32)
+    requires ascend { Ascend pins.old.items }
+    requires pinned { is_pinned pins.old.items from ≡ true }
+    ensures pins { pins.new.items ≡ with_pin (without_pin pins.old.items from) to }
+    ensures ascend { Ascend pins.new.items }
+{
+    let place = before(pins, from);
+    pins.remove(place);
+    let place = before(pins, to);
+    let Ok(()) = pins.insert(place, to) else {
+        unreachable!()
+    };
+}

@@ -12,7 +12,7 @@ ghost use Rattle.md_store.specs.declared.ready.ReadyEnd.{ReadyEnd as OneEnd};
 
 use crate::chain::seen_in;
 use crate::named::places_in_order;
-use crate::pins::{pin, unpin};
+use crate::pins::{move_pin, pin, unpin};
 use crate::ready::{DrawEnd, NoTicket, Ready, ReadyEnd};
 use crate::slot::{Slot, give_up_all, make_room};
 use crate::tickets::{OpenTickets, close, open, path_of};
@@ -70,6 +70,13 @@ impl Store {
             kept: 0,
             room: None,
         }
+    }
+
+    /// The limits that it was made with.
+    pub fn limits(&self) -> Limits
+        ensures { result ≡ self.now.limits }
+    {
+        self.limits
     }
 
     /// The newest version's number.
@@ -257,6 +264,15 @@ impl Store {
         ensures { self.new ≡ record self.old { pins = without_pin self.old.pins version } }
     {
         unpin(&mut self.pins, version);
+    }
+
+    /// Takes one pin of a version away, and pins a version that can be read in its place. Takes no memory.
+    pub fn move_pin(&mut self, from: u32, to: u32)
+        requires from { is_pinned self.old.pins from ≡ true }
+        requires to { is_shown self.old to ≡ true }
+        ensures { self.new ≡ record self.old { pins = with_pin (without_pin self.old.pins from) to } }
+    {
+        move_pin(&mut self.pins, from, to);
     }
 
     /// Gives up every row that is seen neither from the newest version nor from a pinned one, and answers how many.

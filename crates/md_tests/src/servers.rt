@@ -123,3 +123,35 @@ fn a_full_store_keeps_the_ticket(rt: HostRuntime) -> Result<(), Fail> {
     );
     Ok(())
 }
+
+fn draw_and_put(alloc: Global, events: &mut Vec<Event>, ticket: u32) -> Result<(), Fail> {
+    events.push(draw(alloc, "a.txt")?)?;
+    events.push(put(alloc, ticket, "a.txt")?)?;
+    Ok(())
+}
+
+// How many rows the server keeps after these events.
+fn kept(alloc: Global, events: &[Event]) -> Result<usize, Fail> {
+    let (hub, _) = run(alloc, Limits::STANDARD, events)?;
+    Ok(hub.kept())
+}
+
+#[test]
+fn a_vacuum_keeps_what_a_query_sees(rt: HostRuntime) -> Result<(), Fail> {
+    let alloc = rt.alloc();
+    let mut events = Vec::new(alloc);
+    draw_and_put(alloc, &mut events, 1)?;
+    events.push(create(alloc)?)?;
+    draw_and_put(alloc, &mut events, 2)?;
+    draw_and_put(alloc, &mut events, 3)?;
+    assert_eq!(rt; kept(alloc, &events)?, 3);
+    events.push(Event::Vacuum { client: 0 })?;
+    assert_eq!(rt; kept(alloc, &events)?, 2);
+    events.push(Event::Stop {
+        client: 0,
+        number: 1,
+    })?;
+    events.push(Event::Vacuum { client: 0 })?;
+    assert_eq!(rt; kept(alloc, &events)?, 1);
+    Ok(())
+}

@@ -1,0 +1,72 @@
+use Rattle.std.proofs.Common.{◌≡◌, ◌≤◌, true, sym, ap, subst, ◌∙◌}
+use Rattle.std.proofs.lemmas.Option.{get_or_from_slice_get}
+use Rattle.md_world.specs.declared.Limits.{Limits}
+use Rattle.md_world.specs.Differences.{items_of}
+use Rattle.md_machine.specs.Answers.{diff}
+use Rattle.md_machine.specs.Replies.{takes_memory}
+use Rattle.md_machine.specs.States.{Query}
+use Rattle.md_machine.specs.Steps.{Answered}
+use Rattle.md_store.specs.Places.{table_at}
+use Rattle.md_store.specs.Stores.{is_shown}
+use Rattle.md_query.specs.Asked.{newest_of, answered}
+use Rattle.md_hub.specs.Asked.{settled_in, answer_to}
+use Rattle.md_hub.specs.States.{with_table}
+use Rattle.md_hub.proofs.Answering.{asked_found, asked_reply, is_answer}
+use Rattle.md_hub.proofs.Keeping.{if_ok_both, on_err_more}
+use Rattle.md_hub.proofs.Pinning.{shown_at}
+use Rattle.md_hub.proofs.asks.answer.Goals as goal
+
+pub reply-requires-clause-shown : goal.reply-requires-clause-shown
+reply-requires-clause-shown c =
+    let qs = c.args.queries.now in
+    let s = c.args.store.now in
+    let i = c.args.place in
+    let place = c.requires.place in
+    let q = place.query in
+    let was : c.index-queries-place.result ≡ q = c.index-queries-place.is ∙ get_or_from_slice_get qs i q c.index-queries-place.result place.there in
+    subst (λ (x : Query). is_shown s x.base ≡ true) (sym was) (shown_at s qs c.requires.pinned i q place.there)
+
+pub reply-requires-clause-few : goal.reply-requires-clause-few
+reply-requires-clause-few c =
+    let qs = c.args.queries.now in
+    let s = c.args.store.now in
+    let i = c.args.place in
+    let place = c.requires.place in
+    let q = place.query in
+    let was : c.index-queries-place.result ≡ q = c.index-queries-place.is ∙ get_or_from_slice_get qs i q c.index-queries-place.result place.there in
+    subst (λ (x : Query). items_of (diff x.spec (table_at s.places x.base) (table_at s.places s.version)) ≤ s.version) (sym was)
+    (c.requires.few (with_table s.places q) (asked_found s qs c.args.call i place))
+
+pub returns-clause-answer : goal.returns-clause-answer
+returns-clause-answer c =
+    let qs = c.args.queries.now in
+    let s = c.args.store.now in
+    let call = c.args.call in
+    let i = c.args.place in
+    let place = c.requires.place in
+    let q = place.query in
+    let was : c.index-queries-place.result ≡ q = c.index-queries-place.is ∙ get_or_from_slice_get qs i q c.index-queries-place.result place.there in
+    let to : answered (newest_of c.limits-limits.result s) call.ask call.now_ms (with_table s.places c.index-queries-place.result) ≡ answer_to s call (with_table s.places q) =
+    ap (λ (x : Limits). answered (newest_of x s) call.ask call.now_ms (with_table s.places c.index-queries-place.result)) c.limits-limits.ensures
+    ∙ ap (λ (x : Query). answer_to s call (with_table s.places x)) was in
+    if_ok_both _ _ _ c.reply.result
+    (λ a same left. is_answer s qs call i place a.0 a.1
+    (ap (λ (x : Query). with_table s.places (settled_in x a.1)) (sym was) ∙ left ∙ ap (λ (x : Answered). x.query) to)
+    c.requires.pinned (same ∙ ap (λ (x : Answered). x.reply) to))
+    c.reply.ensures.reply c.reply.ensures.query
+
+pub returns-clause-memory : goal.returns-clause-memory
+returns-clause-memory c =
+    let qs = c.args.queries.now in
+    let s = c.args.store.now in
+    let call = c.args.call in
+    let i = c.args.place in
+    let place = c.requires.place in
+    let q = place.query in
+    let was : c.index-queries-place.result ≡ q = c.index-queries-place.is ∙ get_or_from_slice_get qs i q c.index-queries-place.result place.there in
+    let to : answered (newest_of c.limits-limits.result s) call.ask call.now_ms (with_table s.places c.index-queries-place.result) ≡ answer_to s call (with_table s.places q) =
+    ap (λ (x : Limits). answered (newest_of x s) call.ask call.now_ms (with_table s.places c.index-queries-place.result)) c.limits-limits.ensures
+    ∙ ap (λ (x : Query). answer_to s call (with_table s.places x)) was in
+    on_err_more _ _ c.reply.result
+    (λ takes. ap takes_memory (sym (ap (λ (x : Answered). x.reply) to ∙ asked_reply s qs call i place)) ∙ takes)
+    c.reply.ensures.memory

@@ -1,0 +1,16 @@
+use Rattle.md_machine.specs.declared.Event.TheVariants as event
+use Rattle.md_hub.proofs.Keeping.{kept_step}
+use Rattle.md_hub.proofs.Pinning.{bases_shown}
+use Rattle.md_hub.proofs.hub.Hub.vacuum.Goals as goal
+
+pub invariant_of-self : goal.invariant_of-self
+invariant_of-self c =
+    let h = c.self.inside in
+    let qs = h.queries.items in
+    kept_step h.store qs c.self.invariant c.vacuum.new.store (event.Vacuum 0) (c.vacuum.ensures.state qs (bases_shown h.store qs c.self.invariant.pinned)) c.vacuum.ensures.pins
+
+pub returns-clause-state : goal.returns-clause-state
+returns-clause-state c =
+    let h = c.self.inside in
+    let qs = h.queries.items in
+    rw (← c.self.view_is) (c.vacuum.ensures.state qs (bases_shown h.store qs c.self.invariant.pinned))
