@@ -1,5 +1,5 @@
 -- What a search makes of files: the hits among their rows, and what became of those that give no attributes.
-use Rattle.std.proofs.Common.{◌≡◌, ℕ, Bool, true, false, ◌||◌, if◌then◌else◌, List, [], ◌∷◌, ◌++◌, map, filter, refl, ◌∙◌, ap, All, Result, Ok, IfOk}
+use Rattle.std.proofs.Common.{◌≡◌, Bool, true, false, ◌||◌, if◌then◌else◌, List, [], ◌∷◌, ◌++◌, map, filter, refl, ◌∙◌, ap, All, Result, Ok, IfOk}
 use Rattle.std.specs.List.{cons_option, filter_map, flat_map, list_any, AllZip}
 use Rattle.std.specs.declared.alloc.AllocError.{AllocError}
 use Rattle.std.proofs.lemmas.List.Elements.{All-nil, All-cons, All-head, All-tail}

@@ -11,7 +11,7 @@ use Rattle.md_world.specs.Differences.{paths_of}
 use Rattle.md_match.specs.Conditions.{Condition, passes}
 use Rattle.md_files.specs.Additions.{no_report}
 use Rattle.md_files.specs.Answers.{FileAnswer, IsRead}
-use Rattle.md_files.specs.Findings.{Finding, read_findings}
+use Rattle.md_files.specs.Findings.{read_findings}
 use Rattle.md_files.specs.Folders.{AreRead}
 use Rattle.md_files.specs.Reports.{FileReport, report_of}
 use Rattle.md_find.specs.declared.reading.ReadFile.{ReadFile}

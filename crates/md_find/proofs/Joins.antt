@@ -1,11 +1,11 @@
 -- Askings in turn, and others behind them.
-use Rattle.std.proofs.Common.{◌≡◌, ℕ, ℤ, List, [], ◌∷◌, ◌++◌, map, refl, ◌∙◌, ap, subst, Option}
+use Rattle.std.proofs.Common.{◌≡◌, ℕ, ℤ, List, [], ◌∷◌, ◌++◌, map, append_assoc, refl, sym, ◌∙◌, ap, subst, Option}
 use Rattle.std.specs.List.{zip, filter_map}
 use Rattle.std.proofs.lemmas.List.{map-append}
 use Rattle.std.proofs.lemmas.List.Elements.{filter_map-append}
 use Rattle.md_source.specs.Tree.{Content}
 use Rattle.md_source.specs.declared.tree.Entry.{Entry}
-use Rattle.md_files.specs.Answers.{FileAnswer, InTurn, IsRead, outcome}
+use Rattle.md_files.specs.Answers.{FileAnswer, InTurn, InTurnSoFar, IsRead, outcome}
 use Rattle.md_files.specs.Folders.{AreRead}
 use Rattle.md_files.specs.Findings.{read_findings}
 use Rattle.md_files.specs.Findings.Finding.{listed}
@@ -17,6 +17,25 @@ module _ {A B : Type 0} (Asks : ℕ → ℕ → A → B → Type 0) (between : �
   in_turn_join before now [] (y ∷ ys) vs ws none others = absurd none
   in_turn_join before now (x ∷ xs) [] vs ws none others = absurd none
   in_turn_join before now (x ∷ xs) (y ∷ ys) vs ws turn others = (turn.0, turn.1, in_turn_join turn.0 now xs ys vs ws turn.2 others)
+
+  -- some of a batch behind others
+  pub so_far_join : (before now : ℕ) (xs : List A) (ys : List B) (vs rest all : List A) → InTurn Asks before between xs ys → InTurnSoFar Asks between now vs → xs ++ (vs ++ rest) ≡ all → InTurnSoFar Asks before now all
+  so_far_join before now xs ys vs rest all kept others whole =
+      record {
+        asked = xs ++ others.asked;
+        rest = others.rest ++ rest;
+        whole =
+            sym whole
+            ∙ ap (λ (ws : List A). xs ++ (ws ++ rest)) others.whole
+            ∙ ap (λ (ws : List A). xs ++ ws) (append_assoc others.asked others.rest rest)
+            ∙ sym (append_assoc xs others.asked (others.rest ++ rest));
+        answers = ys ++ others.answers;
+        in_turn = in_turn_join before now xs ys others.asked others.answers kept others.in_turn;
+      }
+
+  -- all of several
+  pub so_far_all : (before : ℕ) (xs : List A) (ys : List B) (rest all : List A) → InTurn Asks before between xs ys → xs ++ rest ≡ all → InTurnSoFar Asks before between all
+  so_far_all before xs ys rest all kept whole = record { asked = xs; rest = rest; whole = sym whole; answers = ys; in_turn = kept }
 
   zip_join : (before : ℕ) (xs : List A) (ys : List B) (vs : List A) (ws : List B) → InTurn Asks before between xs ys → zip (xs ++ vs) (ys ++ ws) ≡ zip xs ys ++ zip vs ws
   zip_join before [] [] vs ws kept = refl

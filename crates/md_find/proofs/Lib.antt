@@ -1,6 +1,7 @@
 pub mod Parts
 pub mod Well
 pub mod Files
+pub mod Literals
 pub mod Notes
 pub mod Joins
 pub mod Gathered

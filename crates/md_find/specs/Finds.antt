@@ -30,7 +30,7 @@ use Rattle.md_find.specs.Folders.{Folder, files, unlisted, nothing, full, IsHeld
 
 -- the query of a search: all hits in one part
 abbrev pub query_of : Search → Spec
-query_of search = machine.spec_of search.expr search.moment search.offset search.scope [] no_batch
+query_of search = machine.spec_of search.expr search.local.moment search.local.offset search.scope [] no_batch
 
 -- the paths of the files that a query answers
 abbrev pub hits : Spec → List Entry → List FileAnswer → List PathBytes
@@ -59,7 +59,7 @@ found_in query output full = found.Full
 
 -- the number of the first form of time of a search that is out of range
 abbrev pub form_out : Search → Option ℕ
-form_out search = option_map capped (first_out_of_range search.moment search.offset search.expr)
+form_out search = option_map capped (first_out_of_range search.local.moment search.local.offset search.expr)
 
 -- What a search gives: a form of time that is out of range, where the tree is not asked, or what its query gives on its folder.
 pub data Finds (known : Option Content) (before now : ℕ) (search : Search) (output : Output) : SearchResult → Type 0 where

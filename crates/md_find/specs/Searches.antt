@@ -22,8 +22,8 @@ has_part part (byte ∷ text) = starts_with nat_eq (byte ∷ text) part || has_p
 unfoldable pub looks_like_expression : List ℕ → Bool
 looks_like_expression text = list_any is_sign text || has_part (codes "InRange(") text
 
--- the expression of a search text; by the law `one_outcome` of md_expr, `outcome` is the one answer that the grammar and the
--- limits allow (the relation `Answers`)
+-- The expression of a search text. By the law `literal_text_is_read` it is, by `Literal`, the answer that the grammar and the
+-- limits allow, by the relation `Answers` of md_expr; so `outcome` decides that relation, and need not be read.
 abbrev pub searched : Mode → List ℕ → Result Expr ReadError
 searched mode.Literal text = outcome text
 searched mode.Plain text = interpreted text

@@ -4,10 +4,11 @@ ghost use Rattle.std.specs.List.{cons_option, filter_map};
 ghost use Rattle.md_value.specs.Values.{IsMoment};
 ghost use Rattle.md_source.specs.Causes.{Rose};
 ghost use Rattle.md_source.specs.Tree.{has_folder, entries_below};
+ghost use Rattle.md_files.specs.Answers.{IsRead, InTurnSoFar};
 ghost use Rattle.md_files.specs.Findings.Finding.{named, no_listing};
 ghost use Rattle.md_files.specs.Reports.{report_of};
 ghost use Rattle.md_find.specs.Files.{hit_of, reason_of};
-ghost use Rattle.md_find.specs.Folders.{most_files};
+ghost use Rattle.md_find.specs.Folders.{most_files, IsHeldSoFar};
 ghost use Rattle.md_find.specs.Notes.{noted_all};
 ghost use Rattle.md_find.specs.Finds.{found_text, FindsBy, FindsAmong, FindsBelow, Finds, HasCause, EndsBy, form_out, form_reported};
 
@@ -20,6 +21,7 @@ use md_files::{End, FileReport, ImportResult};
 use md_machine::{Batch, Spec, TimeOutOfRange};
 use md_match::Filter;
 use md_source::{Entry, ListEnd, Tree};
+use md_time::LocalTime;
 use md_value::Path;
 use md_world::Order;
 use std::alloc::{AllocError, Global};
@@ -32,10 +34,8 @@ pub const MOST_FILES: usize = 1_000_000;
 #[derive(Drop)]
 pub struct Search {
     pub expr: Expr,
-    /// The moment from which forms of time are resolved, in seconds since 1970 in UTC.
-    pub moment: i64,
-    /// The minutes by which local time is ahead of UTC.
-    pub offset: i32,
+    /// The time from which forms of time are resolved.
+    pub local: LocalTime,
     /// The folder below which the files stand.
     pub scope: Path,
 }
@@ -113,6 +113,7 @@ fn find_by<R: Threads + Sync, T: Tree>(
 ) -> Result<FileReport, AllocError>
     requires { All (λ entry. IsMoment entry.changed) entries.now }
     ensures found { IfOk result (λ report. FindsBy (T.content tree.old) (T.faults tree.old) (T.faults tree.new) filter.now output entries.now report) }
+    ensures so_far { InTurnSoFar (IsRead (T.content tree.old)) (T.faults tree.old) (T.faults tree.new) entries.now }
     ensures later { T.faults tree.old ≤ T.faults tree.new }
     ensures content { T.content tree.new ≡ T.content tree.old }
 {
@@ -143,6 +144,7 @@ fn find_among<R: Threads + Sync, T: Tree>(
 ) -> Result<FileReport, AllocError>
     requires { All (λ entry. IsMoment entry.changed) entries.now }
     ensures found { IfOk result (λ report. FindsAmong (T.content tree.old) (T.faults tree.old) (T.faults tree.new) spec.entry.now output entries.now report) }
+    ensures so_far { InTurnSoFar (IsRead (T.content tree.old)) (T.faults tree.old) (T.faults tree.new) entries.now }
     ensures later { T.faults tree.old ≤ T.faults tree.new }
     ensures content { T.content tree.new ≡ T.content tree.old }
 {
@@ -185,6 +187,7 @@ fn find_below<R: Threads + Sync, T: Tree>(
     output: Output,
 ) -> Result<SearchResult, AllocError>
     ensures finds { IfOk result (λ found. FindsBelow (T.content tree.old) (T.faults tree.old) (T.faults tree.new) spec output found) }
+    ensures so_far { IsHeldSoFar (T.content tree.old) (T.faults tree.old) (T.faults tree.new) spec.scope }
     ensures later { T.faults tree.old ≤ T.faults tree.new }
     ensures content { T.content tree.new ≡ T.content tree.old }
 {
@@ -219,6 +222,8 @@ pub fn find<R: Threads + Sync, T: Tree>(
     output: Output,
 ) -> Result<SearchResult, AllocError>
     ensures finds { IfOk result (λ found. Finds (T.content tree.old) (T.faults tree.old) (T.faults tree.new) search output found) }
+    // Also where memory runs out.
+    ensures so_far { IsHeldSoFar (T.content tree.old) (T.faults tree.old) (T.faults tree.new) search.scope }
     ensures cause { IfOk result (λ found. HasCause (T.faults tree.old) (T.faults tree.new) found) }
     ensures later { T.faults tree.old ≤ T.faults tree.new }
     ensures content { T.content tree.new ≡ T.content tree.old }
@@ -234,16 +239,11 @@ pub fn find<R: Threads + Sync, T: Tree>(
         has_folder content.folders search.scope ≡ true → length (entries_below content.files search.scope) ≤ most_files → form_out search ≡ None
         → ¬ (Rose (T.faults tree.old) (T.faults tree.new)) → EndsBy found End.Ok)) }
 {
-    let Search {
-        expr,
-        moment,
-        offset,
-        scope,
-    } = search;
+    let Search { expr, local, scope } = search;
     match Spec::new(
         expr,
-        moment,
-        offset,
+        local.moment,
+        local.offset,
         scope,
         Order::by_path(alloc),
         Batch::NONE,

@@ -3,8 +3,9 @@ ghost use Rattle.std.specs.Prelude.{◌≡◌, ◌≤◌, true, false, IfOk, IfS
 ghost use Rattle.md_script.specs.Limits.{most_lines};
 ghost use Rattle.md_source.specs.Causes.{Rose};
 ghost use Rattle.md_value.specs.Values.{IsMoment};
+ghost use Rattle.md_files.specs.Answers.{InTurnSoFar};
 ghost use Rattle.md_files.specs.Reports.{EndHasCause};
-ghost use Rattle.md_live.specs.Given.{tells_imports};
+ghost use Rattle.md_live.specs.Given.{IsGiven, tells_imports};
 ghost use Rattle.md_live.specs.Actions.{actions_of};
 ghost use Rattle.md_live.specs.Reports.{Runs, report_of_actions};
 ghost use Rattle.md_live.specs.Headline.{Headline};
@@ -12,27 +13,28 @@ ghost use Rattle.md_live.specs.Telling.{after_actions, unstarted};
 ghost use Rattle.md_live.specs.TimeForms.{out_of_range};
 
 use crate::given::give_all;
-use crate::session::{Session, Setting};
+use crate::session::Session;
 use md_files::{End, FileReport, ImportResult};
 use md_script::Line;
 use md_source::Tree;
+use md_time::LocalTime;
 use std::alloc::{AllocError, Global};
 
 /// Runs the lines over a server of their own, with what was given to each.
 pub(crate) fn run_lines(
     alloc: Global,
-    setting: &Setting,
+    start: &LocalTime,
     lines: &[Line],
     givens: Vec<Option<ImportResult>>,
 ) -> Result<Session, AllocError>
     requires few { length lines.now ≤ most_lines }
-    requires moment { IsMoment setting.now.moment }
-    requires timely { out_of_range setting.now.moment setting.now.offset lines.now ≡ None }
-    ensures { IfOk result (λ session. session ≡ after_actions unstarted (actions_of setting.now.moment setting.now.offset lines.now givens.items)) }
+    requires moment { IsMoment start.now.moment }
+    requires timely { out_of_range start.now.moment start.now.offset lines.now ≡ None }
+    ensures { IfOk result (λ session. session ≡ after_actions unstarted (actions_of start.now.moment start.now.offset lines.now givens.items)) }
 {
     let mut session = Session::new(alloc);
     for (line, given) in lines.iter().zip(givens) {
-        session.line(alloc, setting, line, given)?;
+        session.line(alloc, start, line, given)?;
     }
     Ok(session)
 }
@@ -40,21 +42,20 @@ pub(crate) fn run_lines(
 // Reports on the run of the lines, with what was given to each.
 fn run_given(
     alloc: Global,
-    setting: &Setting,
+    start: &LocalTime,
     lines: &[Line],
     givens: Vec<Option<ImportResult>>,
 ) -> Result<FileReport, AllocError>
     requires few { length lines.now ≤ most_lines }
-    requires moment { IsMoment setting.now.moment }
-    requires timely { out_of_range setting.now.moment setting.now.offset lines.now ≡ None }
-    ensures { IfOk result (λ report. report ≡ report_of_actions (actions_of setting.now.moment setting.now.offset lines.now givens.items)) }
+    requires moment { IsMoment start.now.moment }
+    requires timely { out_of_range start.now.moment start.now.offset lines.now ≡ None }
+    ensures { IfOk result (λ report. report ≡ report_of_actions (actions_of start.now.moment start.now.offset lines.now givens.items)) }
 {
-    let session = run_lines(alloc, setting, lines, givens)?;
+    let session = run_lines(alloc, start, lines, givens)?;
     Ok(session.into_report())
 }
 
-/// Runs these lines in order over a server of their own, from its opening state. `now` is in seconds since 1970 in UTC,
-/// and `offset` in minutes by which local time is ahead of UTC.
+/// Runs these lines in order over a server of their own, from its opening state. The run begins at `start`.
 ///
 /// No form of time of the lines is out of range, as [`out_of_range`](crate::out_of_range) tells.
 ///
@@ -63,17 +64,18 @@ fn run_given(
 pub fn run<T: Tree>(
     alloc: Global,
     tree: &mut T,
-    now: i64,
-    offset: i32,
+    start: &LocalTime,
     lines: &[Line],
 ) -> Result<FileReport, AllocError>
     requires few { length lines.now ≤ most_lines }
-    requires moment { IsMoment now }
-    requires timely { out_of_range now offset lines.now ≡ None }
-    ensures runs { IfOk result (λ report. Runs (T.content tree.old) (T.faults tree.old) (T.faults tree.new) now offset lines.now report) }
+    requires moment { IsMoment start.now.moment }
+    requires timely { out_of_range start.now.moment start.now.offset lines.now ≡ None }
+    ensures runs { IfOk result (λ report. Runs (T.content tree.old) (T.faults tree.old) (T.faults tree.new) start.now.moment start.now.offset lines.now report) }
     // Over the run's events, what each client holds is its answer on one committed version, and the text is that run's.
-    ensures headline { IfOk result (λ report. Headline (T.content tree.old) (T.faults tree.old) (T.faults tree.new) now offset lines.now report) }
+    ensures headline { IfOk result (λ report. Headline (T.content tree.old) (T.faults tree.old) (T.faults tree.new) start.now.moment start.now.offset lines.now report) }
     ensures cause { IfOk result (λ report. EndHasCause (T.faults tree.old) (T.faults tree.new) report.end) }
+    // Also where memory runs out, some of the first of the imported files were asked for in turn, or all, and no others.
+    ensures so_far { InTurnSoFar (IsGiven start.now.offset (T.content tree.old)) (T.faults tree.old) (T.faults tree.new) lines.now }
     ensures later { T.faults tree.old ≤ T.faults tree.new }
     ensures content { T.content tree.new ≡ T.content tree.old }
 
@@ -83,10 +85,6 @@ pub fn run<T: Tree>(
     ensures complete { IfOk result (λ report. IfSome (T.content tree.old) (λ content.
         tells_imports content lines.now ≡ true → ¬ (Rose (T.faults tree.old) (T.faults tree.new)) → report.end ≡ End.Ok)) }
 {
-    let givens = give_all(alloc, tree, offset, lines)?;
-    let setting = Setting {
-        moment: now,
-        offset,
-    };
-    run_given(alloc, &setting, lines, givens)
+    let givens = give_all(alloc, tree, start.offset, lines)?;
+    run_given(alloc, start, lines, givens)
 }

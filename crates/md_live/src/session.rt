@@ -13,7 +13,7 @@ ghost use Rattle.md_live.specs.Moments.{moment_of};
 ghost use Rattle.md_live.specs.TimeForms.{form_out};
 ghost use Rattle.md_live.specs.Telling.{Telling, unstarted, after_events, after_action, followed_in, asked_events, given_to, sum_so_far};
 
-use crate::moments::moment_of;
+use crate::moments::time_of;
 use crate::sums::Sum;
 use crate::tally::Tally;
 use md_expr_tree::Expr;
@@ -24,6 +24,7 @@ use md_notice::Follower;
 use md_render::{entry_text, held_text};
 use md_script::{Line, What};
 use md_source::Entry;
+use md_time::LocalTime;
 use md_value::{Copied, Items, Path};
 use md_world::{Change, Limits, Order, Part};
 use std::alloc::{AllocError, Global};
@@ -31,13 +32,6 @@ use std::marker::Model;
 
 /// The number of the query whose rows are counted for each client.
 const COUNTED_QUERY: u32 = 1;
-
-/// The moment of a run, in seconds since 1970 in UTC, and the minutes by which local time is ahead of UTC.
-#[derive(Clone, Copy)]
-pub struct Setting {
-    pub moment: i64,
-    pub offset: i32,
-}
 
 /// A server, with the report of its run so far, the place of the next entry and the tally of the notices.
 #[derive(Drop)]
@@ -68,42 +62,40 @@ impl Model for Session {
 fn spec_of(
     alloc: Global,
     expr: &Expr,
-    moment: i64,
-    offset: i32,
+    local: &LocalTime,
     scope: &Path,
     order: &Order,
     batch: Batch,
 ) -> Result<Spec, AllocError>
-    requires { option_map capped (first_out_of_range moment offset expr.now) ≡ None }
-    ensures { IfOk result (λ spec. spec ≡ spec_of expr.now moment offset scope.now order.now batch) }
+    requires { option_map capped (first_out_of_range local.now.moment local.now.offset expr.now) ≡ None }
+    ensures { IfOk result (λ spec. spec ≡ spec_of expr.now local.now.moment local.now.offset scope.now order.now batch) }
 {
     let expr = expr.copy(alloc)?;
     let scope = scope.copy(alloc)?;
     let order = order.copy(alloc)?;
-    match Spec::new(expr, moment, offset, scope, order, batch) {
+    match Spec::new(expr, local.moment, local.offset, scope, order, batch) {
         Ok(spec) => Ok(spec),
         Err(_) => unreachable!(),
     }
 }
 
-// What a file with this content gives that is put at the path and was changed at a moment.
+// What a file with this content gives that is put at the path and was changed at a local time.
 fn put_file(
     alloc: Global,
-    changed: i64,
-    offset: i32,
+    changed: &LocalTime,
     path: &Path,
     content: &str,
 ) -> Result<ImportResult, AllocError>
-    requires { IsMoment changed }
-    ensures { IfOk result (λ given. given ≡ actions.put_file changed offset path.now content.now) }
+    requires { IsMoment changed.now.moment }
+    ensures { IfOk result (λ given. given ≡ actions.put_file changed.now.moment changed.now.offset path.now content.now) }
 {
     let bytes = content.as_bytes();
     let entry = Entry {
         path: path.copy(alloc)?,
         size: bytes.len() as u64,
-        changed,
+        changed: changed.moment,
     };
-    imported(alloc, &entry, bytes, offset)
+    imported(alloc, &entry, bytes, changed.offset)
 }
 
 // The change that a file makes: its attributes are put, and nothing else makes one.
@@ -263,23 +255,24 @@ impl Session {
         self.ask(alloc, &event)
     }
 
-    /// Runs a line, none of whose forms of time is out of range, with what the tree gave to it if it imports a file.
+    /// Runs a line of a run that began at `start`, none of whose forms of time is out of range, with what the tree gave to it
+    /// if it imports a file.
     pub fn line(
         &mut self,
         alloc: Global,
-        setting: &Setting,
+        start: &LocalTime,
         line: &Line,
         given: Option<ImportResult>,
     ) -> Result<(), AllocError>
         requires room { self.old.next + 3 < 2 ^ 64 }
-        requires moment { IsMoment setting.now.moment }
-        requires timely { form_out (moment_of setting.now.moment line.now.at_ms) setting.now.offset line.now.what ≡ None }
-        ensures { OnOk result (self.new ≡ after_action self.old (action_at setting.now.moment setting.now.offset line.now.at_ms line.now.what given)) }
+        requires moment { IsMoment start.now.moment }
+        requires timely { form_out (moment_of start.now.moment line.now.at_ms) start.now.offset line.now.what ≡ None }
+        ensures { OnOk result (self.new ≡ after_action self.old (action_at start.now.moment start.now.offset line.now.at_ms line.now.what given)) }
     {
-        let moment = moment_of(setting.moment, line.at_ms);
+        let local = time_of(start, line.at_ms);
         match &line.what {
             What::Put { path, text } => {
-                let given = put_file(alloc, moment, setting.offset, path, text.as_str())?;
+                let given = put_file(alloc, &local, path, text.as_str())?;
                 self.file(alloc, path, given)
             }
             What::Import { path } => self.file(alloc, path, given.unwrap_or(ImportResult::Absent)),
@@ -292,7 +285,7 @@ impl Session {
                 order,
                 batch,
             } => {
-                let spec = spec_of(alloc, expr, moment, setting.offset, scope, order, *batch)?;
+                let spec = spec_of(alloc, expr, &local, scope, order, *batch)?;
                 let event = Event::Create {
                     client: *client,
                     number: *number,

@@ -9,11 +9,11 @@ ghost use Rattle.md_live.specs.TimeForms.{out_of_range};
 
 use crate::given::give_all;
 use crate::runs::run_lines;
-use crate::session::Setting;
 use crate::tally::Tally;
 use md_files::ImportResult;
 use md_script::Line;
 use md_source::Tree;
+use md_time::LocalTime;
 use md_value::Items;
 use std::alloc::{AllocError, Global};
 
@@ -34,17 +34,17 @@ pub struct Sum {
 // Sums up the run of the lines, with what was given to each.
 fn sum_given(
     alloc: Global,
-    setting: &Setting,
+    start: &LocalTime,
     lines: &[Line],
     givens: Vec<Option<ImportResult>>,
     clients: &[u8],
 ) -> Result<Sum, AllocError>
     requires few { length lines.now ≤ most_lines }
-    requires moment { IsMoment setting.now.moment }
-    requires timely { out_of_range setting.now.moment setting.now.offset lines.now ≡ None }
-    ensures { IfOk result (λ sum. sum ≡ sum_of (run_events (actions_of setting.now.moment setting.now.offset lines.now givens.items)) clients.now) }
+    requires moment { IsMoment start.now.moment }
+    requires timely { out_of_range start.now.moment start.now.offset lines.now ≡ None }
+    ensures { IfOk result (λ sum. sum ≡ sum_of (run_events (actions_of start.now.moment start.now.offset lines.now givens.items)) clients.now) }
 {
-    let session = run_lines(alloc, setting, lines, givens)?;
+    let session = run_lines(alloc, start, lines, givens)?;
     session.sum(alloc, clients)
 }
 
@@ -53,22 +53,17 @@ fn sum_given(
 pub fn sum_up<T: Tree>(
     alloc: Global,
     tree: &mut T,
-    now: i64,
-    offset: i32,
+    start: &LocalTime,
     lines: &[Line],
     clients: &[u8],
 ) -> Result<Sum, AllocError>
     requires few { length lines.now ≤ most_lines }
-    requires moment { IsMoment now }
-    requires timely { out_of_range now offset lines.now ≡ None }
-    ensures sums { IfOk result (λ sum. Sums (T.content tree.old) (T.faults tree.old) (T.faults tree.new) now offset lines.now clients.now sum) }
+    requires moment { IsMoment start.now.moment }
+    requires timely { out_of_range start.now.moment start.now.offset lines.now ≡ None }
+    ensures sums { IfOk result (λ sum. Sums (T.content tree.old) (T.faults tree.old) (T.faults tree.new) start.now.moment start.now.offset lines.now clients.now sum) }
     ensures later { T.faults tree.old ≤ T.faults tree.new }
     ensures content { T.content tree.new ≡ T.content tree.old }
 {
-    let givens = give_all(alloc, tree, offset, lines)?;
-    let setting = Setting {
-        moment: now,
-        offset,
-    };
-    sum_given(alloc, &setting, lines, givens, clients)
+    let givens = give_all(alloc, tree, start.offset, lines)?;
+    sum_given(alloc, start, lines, givens, clients)
 }

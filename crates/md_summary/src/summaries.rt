@@ -12,6 +12,7 @@ use md_gen::{each_is_read, make};
 use md_live::sum_up;
 use md_script::{Script, ScriptError, read_script};
 use md_source::SureTree;
+use md_time::LocalTime;
 use md_value::{Path, PathError};
 use std::alloc::{AllocError, Global};
 
@@ -65,6 +66,10 @@ pub fn summarize(alloc: Global, start: u64, count: u32) -> Result<String, AllocE
     each_is_read();
     let script = read(alloc, made.script.as_str())?;
     let mut tree = SureTree::new(folders(alloc)?, made.files);
-    let sum = sum_up(alloc, &mut tree, 0, 0, script.lines(), &CLIENTS)?;
+    let epoch = LocalTime {
+        moment: 0,
+        offset: 0,
+    };
+    let sum = sum_up(alloc, &mut tree, &epoch, script.lines(), &CLIENTS)?;
     summary_text(alloc, count, &sum)
 }

@@ -2,7 +2,10 @@
 use Rattle.std.proofs.Common.{◌≡◌, ◌⊎◌, inl, inr, List, ℕ, ℤ, codes, refl, sym, ◌∙◌, ap, subst, Result, Ok, Err, Option, Some, None, IfOk, IsErr, arith}
 use Rattle.md_expr_parse.specs.declared.read.ReadError.{ReadError}
 use Rattle.md_expr_tree.specs.declared.tree.Expr.{Expr}
+use Rattle.md_files.proofs.Turns.{none_so_far}
+use Rattle.md_files.specs.Folders.AreFoundSoFar.{between_paths}
 use Rattle.md_find.specs.Finds as search
+use Rattle.md_find.specs.Folders.IsHeldSoFar.{without_fault as not_searched}
 use Rattle.md_find.specs.declared.finding.SearchResult.{SearchResult}
 use Rattle.md_find.specs.declared.finding.Output.{Output}
 use Rattle.md_live.specs.TimeForms.{out_of_range}
@@ -17,11 +20,12 @@ use Rattle.md_words.specs.declared.command.Tool.TheVariants as tool
 use Rattle.md_tool.specs.Causes.{TellsFirst, InputFails, OutputFails, IsReady, IsWhole}
 use Rattle.md_tool.specs.Outside.{Shown, Files, Inputs, Outputs, IsRead, IsShown, Fails, ClockFails, TakesNothing, TakesWhole, TakesPart}
 use Rattle.md_tool.specs.Reports.{Report, refusal, usage, no_clock, refused_script, refused_text, line_out_of_range, of_found}
-use Rattle.md_tool.specs.Asking.{LinesAsk, Answers, Lives, Finds, ToolAsks, Leaves, CommandAsks, WordsAsk, Prints, Ends}
+use Rattle.md_tool.specs.Asking.{LinesAsk, Answers, Lives, Finds, ToolAsks, Leaves, LivesSoFar, AsksSoFar, CommandAsks, WordsAsk, Prints, Ends}
 use Rattle.md_tool.specs.Asking.LinesAsk.{misdated}
 use Rattle.md_tool.specs.Asking.Answers.{refuses as script_refuses, unclocked as script_unclocked, runs}
 use Rattle.md_tool.specs.Asking.Lives.{unread, read}
 use Rattle.md_tool.specs.Asking.Finds.{refuses as text_refuses, unclocked as text_unclocked, searches}
+use Rattle.md_tool.specs.Asking.LivesSoFar.{without_fault as not_run}
 use Rattle.md_tool.specs.Asking.WordsAsk.{misread, commands}
 use Rattle.md_tool.specs.Asking.Prints.{whole, stopped_in_err, stopped_in_out}
 use Rattle.md_tool.specs.Asking.Ends.{prints, no_memory}
@@ -76,7 +80,7 @@ module _ (offset : ℤ) (output : Output) (scope : PathBytes) (query : Result Ex
   finds_unclocked expr is rose tree script = finds_same _ (text_unclocked expr is rose tree script)
 
   pub finds_searches : (expr : Expr) (now : ℤ) (made : SearchResult) → query ≡ Ok expr → IsShown old.clock new.clock now
-      → search.Finds old.tree.known old.tree.faults new.tree.faults (record { expr = expr; moment = now; offset = offset; scope = scope }) output made
+      → search.Finds old.tree.known old.tree.faults new.tree.faults (record { expr = expr; local = record { moment = now; offset = offset }; scope = scope }) output made
       → new.tree.known ≡ old.tree.known → new.script ≡ old.script → (p : Report) → p ≡ of_found made → Finds offset output scope query old new p
   finds_searches expr now made is shows found tree script = finds_same _ (searches expr now made is shows found tree script)
 
@@ -131,6 +135,28 @@ leaves_words words old new parsed is leaves command known =
     let same : Some parsed ≡ Some command = sym is ∙ known in
     let parsed_same : parsed ≡ command = cc (same) in
     subst (λ c. Leaves c.what old new) parsed_same leaves
+
+-- where nothing is asked, no call on the tree failed
+pub so_far_same : (offset : ℤ) (what : Tool) (old : Inputs) → AsksSoFar offset what old old
+so_far_same offset (tool.Find zero count scope name mode text) old = not_searched refl
+so_far_same offset (tool.Show raw marker names files) old = none_so_far _ old.tree.faults old.tree.faults files refl
+so_far_same offset (tool.Import files) old = between_paths (none_so_far _ old.tree.faults old.tree.faults files refl)
+so_far_same offset tool.Importers old = refl
+so_far_same offset tool.Attributes old = refl
+so_far_same offset (tool.Live workers) old = not_run refl
+so_far_same offset (tool.Gen start count) old = refl
+
+-- what a command asks of the tree is asked where the words read as it
+pub so_far_words : (words : List (List ℕ)) (old new : Inputs) (parsed : Command) → command_of words ≡ Some parsed → AsksSoFar parsed.offset parsed.what old new
+    → (command : Command) → command_of words ≡ Some command → AsksSoFar command.offset command.what old new
+so_far_words words old new parsed is so_far command known =
+    let same : Some parsed ≡ Some command = sym is ∙ known in
+    let parsed_same : parsed ≡ command = cc (same) in
+    subst (λ c. AsksSoFar c.offset c.what old new) parsed_same so_far
+
+-- a tool that is the run of a script asks the tree so far as that does
+pub live_so_far : (offset : ℤ) (what : Tool) (workers : Option ℕ) (old new : Inputs) → what ≡ tool.Live workers → LivesSoFar offset old new → AsksSoFar offset what old new
+live_so_far offset what workers old new is h = subst (λ w. AsksSoFar offset w old new) (sym is) h
 
 -- what holds where the needs of a command are met holds of the words that read as it
 pub complete_words : (words : List (List ℕ)) (old new : Inputs) (before after : Outputs) (answer : Status) (parsed : Command) → command_of words ≡ Some parsed

@@ -54,7 +54,7 @@ module _ (offset : ℤ) (zero count : Bool) (scope : PathBytes) (name : Option (
 
   module _ (expr : Expr) (now : ℤ) (is : query ≡ Ok expr) (shown : IsShown old.clock new.clock now) where
     abbrev search : Search
-    search = record { expr = expr; moment = now; offset = offset; scope = scope }
+    search = record { expr = expr; local = record { moment = now; offset = offset }; scope = scope }
 
     -- the form that is known is one of the expression, at the moment resolved
     form_there : (which : ℕ) (o : Option ℕ) → Some which ≡ option_map capped o → (form : ℕ) × (o ≡ Some form)

@@ -1,5 +1,6 @@
 mod Causes
 mod Ending
+mod Failures
 mod FindCauses
 mod LiveCauses
 mod Scripts

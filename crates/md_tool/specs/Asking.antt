@@ -2,14 +2,18 @@
 use Rattle.std.specs.Prelude.{◌≡◌, ℕ, ℤ, Bool, if◌then◌else◌, List, codes, None, Some, Result, Ok, Err}
 use Rattle.md_expr_parse.specs.declared.read.ReadError.{ReadError}
 use Rattle.md_expr_tree.specs.declared.tree.Expr.{Expr}
+use Rattle.md_files.specs.Answers.{IsAsked, InTurnSoFar}
+use Rattle.md_files.specs.Folders.{AreFoundSoFar}
 use Rattle.md_files.specs.Reports as files
 use Rattle.md_files.specs.Reports.{Shows, Imports}
 use Rattle.md_files.specs.Tables.{importers_text, attributes_text}
 use Rattle.md_find.specs.Finds as search
+use Rattle.md_find.specs.Folders.{IsHeldSoFar}
 use Rattle.md_find.specs.Searches.{search_of}
 use Rattle.md_find.specs.declared.finding.SearchResult.{SearchResult}
 use Rattle.md_find.specs.declared.finding.Output.{Output}
 use Rattle.md_find.specs.declared.finding.Output.TheVariants as output
+use Rattle.md_live.specs.Given.{IsGiven}
 use Rattle.md_live.specs.Headline.{Headline}
 use Rattle.md_live.specs.TimeForms.{out_of_range}
 use Rattle.md_script.specs.declared.script.Line.{Line}
@@ -67,7 +71,7 @@ pub data Finds (offset : ℤ) (output : Output) (scope : PathBytes) (query : Res
   unclocked : (expr : Expr) → query ≡ Ok expr → ClockFails old.clock new.clock → new.tree ≡ old.tree → new.script ≡ old.script
       → Finds offset output scope query old new no_clock
   searches : (expr : Expr) (now : ℤ) (found : SearchResult) → query ≡ Ok expr → IsShown old.clock new.clock now
-      → search.Finds old.tree.known old.tree.faults new.tree.faults (record { expr = expr; moment = now; offset = offset; scope = scope }) output found
+      → search.Finds old.tree.known old.tree.faults new.tree.faults (record { expr = expr; local = record { moment = now; offset = offset }; scope = scope }) output found
       → new.tree.known ≡ old.tree.known → new.script ≡ old.script → Finds offset output scope query old new (of_found found)
 
 -- what a tool asks at an offset, and what is printed of it
@@ -93,6 +97,22 @@ Leaves (tool.Show raw marker names files) old new = Stays old.tree new.tree × (
 Leaves (tool.Import files) old new = Stays old.tree new.tree × (new.script ≡ old.script) × (new.clock ≡ old.clock)
 Leaves (tool.Live workers) old new = Stays old.tree new.tree
 Leaves _ old new = new ≡ old
+
+-- How far the askings of the tree by `live` came: no call failed, or the files that the lines of a script import were asked for
+-- in turn, some of the first of them or all.
+pub data LivesSoFar (offset : ℤ) (old new : Inputs) : Type 0 where
+  without_fault : new.tree.faults ≡ old.tree.faults → LivesSoFar offset old new
+  in_lines : (bytes : List ℕ) (lines : List Line) → IsRead old.script new.script bytes → verdict bytes ≡ Ok lines
+      → InTurnSoFar (IsGiven offset old.tree.known) old.tree.faults new.tree.faults lines → LivesSoFar offset old new
+
+-- How far the askings of the tree by a tool came, whatever its status is, also where memory runs out: each call on the tree is
+-- one of the askings of the files and folders that the tool names, some of the first of them or all, in turn.
+abbrev pub AsksSoFar : ℤ → Tool → Inputs → Inputs → Type 0
+AsksSoFar offset (tool.Find zero count scope name mode text) old new = IsHeldSoFar old.tree.known old.tree.faults new.tree.faults scope
+AsksSoFar offset (tool.Show raw marker names files) old new = InTurnSoFar (IsAsked old.tree.known) old.tree.faults new.tree.faults files
+AsksSoFar offset (tool.Import files) old new = AreFoundSoFar old.tree.known old.tree.faults new.tree.faults files
+AsksSoFar offset (tool.Live workers) old new = LivesSoFar offset old new
+AsksSoFar offset _ old new = new.tree ≡ old.tree
 
 -- what the words ask, and what is printed of it; nothing is asked where they are not understood
 pub data WordsAsk (words : List (List ℕ)) (old new : Inputs) : Report → Type 0 where

@@ -33,6 +33,29 @@ pub record Outputs : Type 0 where
   pub err : Bytes
   pub out : Bytes
 
+-- all of them
+pub record Outside : Type 0 where
+  pub inputs : Inputs
+  pub outputs : Outputs
+
+-- what is known of a tree, of a source or a sink, and of a clock, beside its count of faults
+abbrev pub files : Option Content → ℕ → Files
+files content faults = record { known = content; faults = faults }
+
+abbrev pub bytes : Option (List ℕ) → ℕ → Bytes
+bytes known faults = record { known = known; faults = faults }
+
+abbrev pub shown : Option ℤ → ℕ → Shown
+shown moment faults = record { known = moment; faults = faults }
+
+-- a tree, a script, a clock, and the sinks for out and for err
+abbrev pub outside : Files → Bytes → Shown → Bytes → Bytes → Outside
+outside tree script clock out err =
+    record {
+      inputs = record { tree = tree; script = script; clock = clock };
+      outputs = record { err = err; out = out };
+    }
+
 -- what is known of a tree, a script and a clock, each beside its count of faults
 abbrev pub inputs : Option Content → ℕ → Option (List ℕ) → ℕ → Option ℤ → ℕ → Inputs
 inputs content tree left script moment clock =

@@ -2,6 +2,7 @@
 ghost use Rattle.std.specs.Prelude.{◌≡◌, ◌≤◌, ℕ, Bool, List, Option, IsErr, IfOk, Err};
 ghost use Rattle.std.specs.Option.{option_map};
 ghost use Rattle.md_expr_parse.specs.declared.read.ReadError.TheVariants.{Memory};
+ghost use Rattle.md_find.specs.Folders.{IsHeldSoFar};
 ghost use Rattle.md_find.specs.Searches.{search_of};
 ghost use Rattle.md_tool.specs.Reports.{refused_text, form_out_of_range, too_many_files, of_found};
 ghost use Rattle.md_words.specs.declared.command.Mode.{Mode};
@@ -15,6 +16,7 @@ use crate::report::{Report, no_clock, of_files, refusal};
 use md_expr::{Expr, ReadError};
 use md_find::{MOST_FILES, Output, Search, SearchResult};
 use md_source::{Clock, Tree};
+use md_time::LocalTime;
 use md_value::{Copied, Path};
 use md_words::Utf8;
 use std::alloc::{AllocError, Global};
@@ -104,6 +106,7 @@ pub(crate) fn find<R: Threads + Sync, T: Tree, C: Clock>(
         (inputs (T.content tree.new) (T.faults tree.new) script.known script.faults (C.moment clock.new) (C.faults clock.new))
         report.status) }
     ensures memory { query ≡ Err Memory → IsErr result }
+    ensures so_far { IsHeldSoFar (T.content tree.old) (T.faults tree.old) (T.faults tree.new) scope.now }
     ensures content { T.content tree.new ≡ T.content tree.old }
     ensures later { T.faults tree.old ≤ T.faults tree.new }
 {
@@ -116,8 +119,7 @@ pub(crate) fn find<R: Threads + Sync, T: Tree, C: Clock>(
     };
     let search = Search {
         expr,
-        moment,
-        offset,
+        local: LocalTime { moment, offset },
         scope: scope.copy(alloc)?,
     };
     let found = md_find::find(rt, alloc, tree, search, output)?;

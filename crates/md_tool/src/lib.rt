@@ -5,12 +5,15 @@
 //! `err` whole, and then `out`.
 //!
 //! Its contract says what is asked of each object and what is printed of the answers, what each status tells of them, that
-//! what a command does not name stays as it was also where memory runs out, and when a run is complete.
+//! what a command does not name stays as it was also where memory runs out, which calls on the tree there were by then, and
+//! when a run is complete. [`laws`] say that no more askings of the tree failed than its count of faults rose by.
 #![tactic(auto)]
 
 mod find;
+pub mod laws;
 mod live;
 mod report;
+mod running;
 mod status;
 mod tools;
 mod top;

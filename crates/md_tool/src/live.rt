@@ -1,12 +1,16 @@
 // The run of a script.
-ghost use Rattle.std.specs.Prelude.{◌≡◌, ◌≤◌, IsErr, IfOk, length, None};
+ghost use Rattle.std.specs.Prelude.{◌≡◌, ◌≤◌, ◌⊎◌, IsErr, IfOk, List, length, None, Ok};
 ghost use Rattle.md_script.specs.Limits.{most_lines};
 ghost use Rattle.md_value.specs.Values.{IsMoment};
+ghost use Rattle.md_files.specs.Answers.{InTurnSoFar};
+ghost use Rattle.md_live.specs.Given.{IsGiven};
+ghost use Rattle.md_script.specs.Scripts.{verdict};
+ghost use Rattle.md_script.specs.declared.script.Line.{Line};
 ghost use Rattle.md_script.specs.declared.script.ScriptError.TheVariants.{BadLine, Memory};
 ghost use Rattle.md_tool.specs.Reports.{refused_script, line_out_of_range};
 ghost use Rattle.md_words.specs.declared.command.Tool.TheVariants.{Live};
 ghost use Rattle.md_tool.specs.Outside.{inputs};
-ghost use Rattle.md_tool.specs.Asking.{LinesAsk, Answers, Lives};
+ghost use Rattle.md_tool.specs.Asking.{LinesAsk, Answers, Lives, LivesSoFar};
 ghost use Rattle.md_tool.specs.Causes.{TellsFirst};
 
 use crate::Status;
@@ -14,6 +18,7 @@ use crate::report::{Report, no_clock, of_files, refusal};
 use md_live::out_of_range;
 use md_script::{Line, MOST_BYTES, ScriptError, read_script};
 use md_source::{Clock, Source, SourceEnd, Tree, read_all};
+use md_time::LocalTime;
 use std::alloc::{AllocError, Global};
 
 fn bad_line(alloc: Global, number: u32) -> Result<Report, AllocError>
@@ -43,26 +48,26 @@ fn line_out_of_range(alloc: Global, line: u32, form: u32) -> Result<Report, Allo
     refusal(alloc, Status::Expression, line.as_str())
 }
 
-// What the lines ask of the tree now, and what is printed of it.
+// What the lines ask of the tree in a run that begins at `start`, and what is printed of it.
 fn of_lines<T: Tree>(
     alloc: Global,
-    now: i64,
-    offset: i32,
+    start: &LocalTime,
     lines: &[Line],
     tree: &mut T,
 ) -> Result<Report, AllocError>
     requires few { length lines.now ≤ most_lines }
-    requires moment { IsMoment now }
-    ensures asks { IfOk result (λ report. LinesAsk now offset lines.now
+    requires moment { IsMoment start.now.moment }
+    ensures asks { IfOk result (λ report. LinesAsk start.now.moment start.now.offset lines.now
         (record { known = T.content tree.old; faults = T.faults tree.old })
         (record { known = T.content tree.new; faults = T.faults tree.new }) report) }
+    ensures so_far { InTurnSoFar (IsGiven start.now.offset (T.content tree.old)) (T.faults tree.old) (T.faults tree.new) lines.now }
     ensures content { T.content tree.new ≡ T.content tree.old }
     ensures later { T.faults tree.old ≤ T.faults tree.new }
 {
-    if let Some((line, form)) = out_of_range(now, offset, lines) {
+    if let Some((line, form)) = out_of_range(start, lines) {
         return line_out_of_range(alloc, line, form);
     }
-    let made = md_live::run(alloc, tree, now, offset, lines)?;
+    let made = md_live::run(alloc, tree, start, lines)?;
     Ok(of_files(made))
 }
 
@@ -79,6 +84,8 @@ fn answer<T: Tree, C: Clock>(
         (record { known = C.moment clock.new; faults = C.faults clock.new })
         (record { known = T.content tree.old; faults = T.faults tree.old })
         (record { known = T.content tree.new; faults = T.faults tree.new }) report) }
+    ensures so_far { (T.faults tree.new ≡ T.faults tree.old) ⊎ ((lines : List Line) × (verdict bytes.now ≡ Ok lines)
+        × InTurnSoFar (IsGiven offset (T.content tree.old)) (T.faults tree.old) (T.faults tree.new) lines) }
     ensures content { T.content tree.new ≡ T.content tree.old }
     ensures later { T.faults tree.old ≤ T.faults tree.new }
 {
@@ -87,7 +94,10 @@ fn answer<T: Tree, C: Clock>(
         Err(error) => return refused_script(alloc, error),
     };
     match clock.now() {
-        Ok(now) => of_lines(alloc, now, offset, script.lines(), tree),
+        Ok(moment) => {
+            let start = LocalTime { moment, offset };
+            of_lines(alloc, &start, script.lines(), tree)
+        }
         Err(_) => no_clock(alloc),
     }
 }
@@ -106,6 +116,9 @@ pub(crate) fn live<T: Tree, S: Source, C: Clock>(
         (inputs (T.content tree.old) (T.faults tree.old) (S.left script.old) (S.faults script.old) (C.moment clock.old) (C.faults clock.old))
         (inputs (T.content tree.new) (T.faults tree.new) (S.left script.new) (S.faults script.new) (C.moment clock.new) (C.faults clock.new))
         report) }
+    ensures so_far { LivesSoFar offset
+        (inputs (T.content tree.old) (T.faults tree.old) (S.left script.old) (S.faults script.old) (C.moment clock.old) (C.faults clock.old))
+        (inputs (T.content tree.new) (T.faults tree.new) (S.left script.new) (S.faults script.new) (C.moment clock.new) (C.faults clock.new)) }
     ensures tells { IfOk result (λ report. TellsFirst offset (Live None)
         (inputs (T.content tree.old) (T.faults tree.old) (S.left script.old) (S.faults script.old) (C.moment clock.old) (C.faults clock.old))
         (inputs (T.content tree.new) (T.faults tree.new) (S.left script.new) (S.faults script.new) (C.moment clock.new) (C.faults clock.new))

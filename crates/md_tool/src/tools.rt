@@ -3,8 +3,10 @@ ghost use Rattle.std.specs.Prelude.{◌≡◌, ◌≤◌, IfOk, true};
 ghost use Rattle.md_words.specs.Grammar.{is_offered};
 ghost use Rattle.md_words.specs.declared.command.Tool.TheVariants.{Show, Import};
 ghost use Rattle.md_tool.specs.Outside.{Bytes, Shown, inputs};
-ghost use Rattle.md_tool.specs.Asking.{OfFiles, ToolAsks, Leaves};
+ghost use Rattle.md_tool.specs.Asking.{OfFiles, ToolAsks, Leaves, AsksSoFar};
 ghost use Rattle.md_tool.specs.Causes.{TellsFirst};
+ghost use Rattle.md_files.specs.Answers.{IsAsked, InTurnSoFar};
+ghost use Rattle.md_files.specs.Folders.{AreFoundSoFar};
 ghost use Rattle.md_files.specs.Reports.{Shows, Imports};
 
 use crate::find::{find, output_of, text_of};
@@ -35,6 +37,7 @@ fn show<T: Tree>(
         (inputs (T.content tree.old) (T.faults tree.old) script.known script.faults clock.known clock.faults)
         (inputs (T.content tree.new) (T.faults tree.new) script.known script.faults clock.known clock.faults)
         report.status) }
+    ensures so_far { InTurnSoFar (IsAsked (T.content tree.old)) (T.faults tree.old) (T.faults tree.new) files.now }
     ensures content { T.content tree.new ≡ T.content tree.old }
     ensures later { T.faults tree.old ≤ T.faults tree.new }
 {
@@ -56,6 +59,7 @@ fn import<T: Tree>(
         (inputs (T.content tree.old) (T.faults tree.old) script.known script.faults clock.known clock.faults)
         (inputs (T.content tree.new) (T.faults tree.new) script.known script.faults clock.known clock.faults)
         report.status) }
+    ensures so_far { AreFoundSoFar (T.content tree.old) (T.faults tree.old) (T.faults tree.new) files.now }
     ensures content { T.content tree.new ≡ T.content tree.old }
     ensures later { T.faults tree.old ≤ T.faults tree.new }
 {
@@ -81,6 +85,9 @@ pub(crate) fn asked<R: Threads + Sync, T: Tree, S: Source, C: Clock>(
         (inputs (T.content tree.old) (T.faults tree.old) (S.left script.old) (S.faults script.old) (C.moment clock.old) (C.faults clock.old))
         (inputs (T.content tree.new) (T.faults tree.new) (S.left script.new) (S.faults script.new) (C.moment clock.new) (C.faults clock.new))
         report.status) }
+    ensures so_far { AsksSoFar command.now.offset command.now.what
+        (inputs (T.content tree.old) (T.faults tree.old) (S.left script.old) (S.faults script.old) (C.moment clock.old) (C.faults clock.old))
+        (inputs (T.content tree.new) (T.faults tree.new) (S.left script.new) (S.faults script.new) (C.moment clock.new) (C.faults clock.new)) }
     ensures leaves { Leaves command.now.what
         (inputs (T.content tree.old) (T.faults tree.old) (S.left script.old) (S.faults script.old) (C.moment clock.old) (C.faults clock.old))
         (inputs (T.content tree.new) (T.faults tree.new) (S.left script.new) (S.faults script.new) (C.moment clock.new) (C.faults clock.new)) }

@@ -1,47 +1,24 @@
 // The top call.
-ghost use Rattle.std.specs.Prelude.{◌≡◌, ◌⊎◌, true, IsErr, IfOk, Some, None};
+ghost use Rattle.std.specs.Prelude.{◌≡◌, true};
 ghost use Rattle.md_words.specs.Words.{texts};
-ghost use Rattle.md_words.specs.Grammar.{command_of, is_offered};
-ghost use Rattle.md_words.specs.declared.command.Command.{Command};
-ghost use Rattle.md_tool.specs.Outside.{inputs, outputs, TakesNothing};
-ghost use Rattle.md_tool.specs.Asking.{CommandAsks, WordsAsk, Leaves, Prints, Ends};
-ghost use Rattle.md_tool.specs.Causes.{Tells, InputFails, OutputFails, IsReady, IsWhole};
+ghost use Rattle.md_words.specs.Grammar.{is_offered};
+ghost use Rattle.md_tool.specs.Outside.{outside, files, bytes, shown};
+ghost use Rattle.md_tool.specs.Runs.{CommandRuns, Runs};
 
-use crate::report::{Report, usage};
-use crate::tools::asked;
-use crate::{Outcome, Status};
-use md_source::{Clock, PutEnd, Sink, Source, Tree, put_texts};
-use md_words::{Command, WordsError, read_words};
-use std::alloc::{AllocError, Global};
+use crate::Outcome;
+use crate::running::{run_command, run_words};
+use md_source::{Clock, Sink, Source, Tree};
+use md_words::Command;
+use std::alloc::Global;
 use std::thread::Threads;
 
-// Puts both texts, where memory did not run out.
-fn print<K: Sink, E: Sink>(report: Result<Report, AllocError>, out: &mut K, err: &mut E) -> Outcome
-    // What is printed of a report.
-    ensures prints { IfOk report (λ r. Prints r (outputs (E.taken err.old) (E.faults err.old) (K.taken out.old) (K.faults out.old)) (outputs (E.taken err.new) (E.faults err.new) (K.taken out.new) (K.faults out.new)) result.status) }
-    ensures status { IfOk report (λ r. (result.status ≡ r.status) ⊎ ((result.status ≡ Status.Memory) ⊎ ((result.status ≡ Status.WriteFault) × OutputFails (outputs (E.taken err.old) (E.faults err.old) (K.taken out.old) (K.faults out.old)) (outputs (E.taken err.new) (E.faults err.new) (K.taken out.new) (K.faults out.new))))) }
-    ensures memory { IsErr report → (result.status ≡ Status.Memory) × TakesNothing (record { known = E.taken err.old; faults = E.faults err.old }) (record { known = E.taken err.new; faults = E.faults err.new }) × TakesNothing (record { known = K.taken out.old; faults = K.faults out.old }) (record { known = K.taken out.new; faults = K.faults out.new }) }
-{
-    let Ok(report) = report else {
-        return Outcome {
-            status: Status::Memory,
-        };
-    };
-    let status = match put_texts(err, report.err.as_str(), out, report.out.as_str()) {
-        Ok(()) => report.status,
-        Err(PutEnd::Failed) => Status::WriteFault,
-        Err(PutEnd::Memory) => Status::Memory,
-    };
-    Outcome { status }
-}
-
-/// Runs a command: `mdfind`, `mdls` and `mdimport` over the tree, `live` over the script, and `gen` over files that it makes.
-/// The whole text for `err` is put before that for `out`.
+/// Runs a command: `mdfind`, `mdls` and `mdimport` over the tree, `live` over the script, and `gen` over files that
+/// it makes. The whole text for `err` is put before that for `out`.
 ///
-/// The command is one that `read_words` gives. A tool calls only what it needs: `mdfind` the clock once and then the tree,
-/// `mdls` and `mdimport` the tree alone, the lists of importers and attributes nothing, `live` the script, which has at most
-/// 67,108,864 bytes and 100,000 lines, then the clock once, and then the tree for the files that the script imports, and
-/// `gen` nothing. `mdfind` imports files in as many threads as there are processors.
+/// The command is one that `read_words` gives. A tool calls only what it needs: `mdfind` the clock once and then the
+/// tree, `mdls` and `mdimport` the tree alone, the lists of importers and attributes nothing, `live` the script,
+/// which has at most 67,108,864 bytes and 100,000 lines, then the clock once, and then the tree for the files that
+/// the script imports, and `gen` nothing. `mdfind` imports files in as many threads as there are processors.
 pub fn run_tool<R: Threads + Sync, T: Tree, S: Source, C: Clock, K: Sink, E: Sink>(
     rt: &R,
     alloc: Global,
@@ -53,24 +30,21 @@ pub fn run_tool<R: Threads + Sync, T: Tree, S: Source, C: Clock, K: Sink, E: Sin
     err: &mut E,
 ) -> Outcome
     requires { is_offered command.now.what ≡ true }
-    // What is printed, and the status that goes with it.
-    ensures ends { Ends (CommandAsks command.now (inputs (T.content tree.old) (T.faults tree.old) (S.left script.old) (S.faults script.old) (C.moment clock.old) (C.faults clock.old)) (inputs (T.content tree.new) (T.faults tree.new) (S.left script.new) (S.faults script.new) (C.moment clock.new) (C.faults clock.new))) (outputs (E.taken err.old) (E.faults err.old) (K.taken out.old) (K.faults out.old)) (outputs (E.taken err.new) (E.faults err.new) (K.taken out.new) (K.faults out.new)) result.status }
-    // What stays, also where memory runs out: what the command does not name, and the content of the tree.
-    ensures leaves { Leaves command.now.what (inputs (T.content tree.old) (T.faults tree.old) (S.left script.old) (S.faults script.old) (C.moment clock.old) (C.faults clock.old)) (inputs (T.content tree.new) (T.faults tree.new) (S.left script.new) (S.faults script.new) (C.moment clock.new) (C.faults clock.new)) }
-    // The cause of each status.
-    ensures tells { Tells command.now.offset command.now.what (inputs (T.content tree.old) (T.faults tree.old) (S.left script.old) (S.faults script.old) (C.moment clock.old) (C.faults clock.old)) (inputs (T.content tree.new) (T.faults tree.new) (S.left script.new) (S.faults script.new) (C.moment clock.new) (C.faults clock.new)) result.status }
-    ensures write_fault { result.status ≡ Status.WriteFault → OutputFails (outputs (E.taken err.old) (E.faults err.old) (K.taken out.old) (K.faults out.old)) (outputs (E.taken err.new) (E.faults err.new) (K.taken out.new) (K.faults out.new)) }
-    // Where all that the command needs is known and in order and no call on the outside failed, all is printed, or memory
-    // ran out.
-    ensures complete { IsReady command.now.offset (inputs (T.content tree.old) (T.faults tree.old) (S.left script.old) (S.faults script.old) (C.moment clock.old) (C.faults clock.old)) command.now.what → ¬ (InputFails (inputs (T.content tree.old) (T.faults tree.old) (S.left script.old) (S.faults script.old) (C.moment clock.old) (C.faults clock.old)) (inputs (T.content tree.new) (T.faults tree.new) (S.left script.new) (S.faults script.new) (C.moment clock.new) (C.faults clock.new))) → ¬ (OutputFails (outputs (E.taken err.old) (E.faults err.old) (K.taken out.old) (K.faults out.old)) (outputs (E.taken err.new) (E.faults err.new) (K.taken out.new) (K.faults out.new)))
-        → (result.status ≡ Status.Memory) ⊎ IsWhole command.now.what (inputs (T.content tree.new) (T.faults tree.new) (S.left script.new) (S.faults script.new) (C.moment clock.new) (C.faults clock.new)) result.status }
+    // What the command does, from the outside before it to the outside after it.
+    ensures runs { CommandRuns command.now
+        (outside (files (T.content tree.old) (T.faults tree.old)) (bytes (S.left script.old) (S.faults script.old))
+        (shown (C.moment clock.old) (C.faults clock.old))
+        (bytes (K.taken out.old) (K.faults out.old)) (bytes (E.taken err.old) (E.faults err.old)))
+        (outside (files (T.content tree.new) (T.faults tree.new)) (bytes (S.left script.new) (S.faults script.new))
+        (shown (C.moment clock.new) (C.faults clock.new))
+        (bytes (K.taken out.new) (K.faults out.new)) (bytes (E.taken err.new) (E.faults err.new)))
+        result.status }
 {
-    let report = asked(rt, alloc, command, tree, script, clock);
-    print(report, out, err)
+    run_command(rt, alloc, command, tree, script, clock, out, err)
 }
 
-/// The top call: reads the words of the program and runs their command by `run_tool`. Words that are not understood have a
-/// line on `err`, and nothing else is called.
+/// The top call: reads the words of the program and runs their command as `run_tool` does. Words that are not
+/// understood have a line on `err`, and nothing else is called.
 pub fn run<R: Threads + Sync, T: Tree, S: Source, C: Clock, K: Sink, E: Sink>(
     rt: &R,
     alloc: Global,
@@ -81,27 +55,15 @@ pub fn run<R: Threads + Sync, T: Tree, S: Source, C: Clock, K: Sink, E: Sink>(
     out: &mut K,
     err: &mut E,
 ) -> Outcome
-    // What is printed, and the status that goes with it.
-    ensures ends { Ends (WordsAsk (texts words.now) (inputs (T.content tree.old) (T.faults tree.old) (S.left script.old) (S.faults script.old) (C.moment clock.old) (C.faults clock.old)) (inputs (T.content tree.new) (T.faults tree.new) (S.left script.new) (S.faults script.new) (C.moment clock.new) (C.faults clock.new))) (outputs (E.taken err.old) (E.faults err.old) (K.taken out.old) (K.faults out.old)) (outputs (E.taken err.new) (E.faults err.new) (K.taken out.new) (K.faults out.new)) result.status }
-    // What stays, also where memory runs out: all where the words are not understood, and else what their command does not
-    // name, and the content of the tree.
-    ensures idle { command_of (texts words.now) ≡ None → inputs (T.content tree.new) (T.faults tree.new) (S.left script.new) (S.faults script.new) (C.moment clock.new) (C.faults clock.new) ≡ inputs (T.content tree.old) (T.faults tree.old) (S.left script.old) (S.faults script.old) (C.moment clock.old) (C.faults clock.old) }
-    ensures leaves { (command : Command) → command_of (texts words.now) ≡ Some command → Leaves command.what (inputs (T.content tree.old) (T.faults tree.old) (S.left script.old) (S.faults script.old) (C.moment clock.old) (C.faults clock.old)) (inputs (T.content tree.new) (T.faults tree.new) (S.left script.new) (S.faults script.new) (C.moment clock.new) (C.faults clock.new)) }
-    // The cause of each status.
-    ensures usage { result.status ≡ Status.Usage → command_of (texts words.now) ≡ None }
-    ensures tells { (command : Command) → command_of (texts words.now) ≡ Some command → Tells command.offset command.what (inputs (T.content tree.old) (T.faults tree.old) (S.left script.old) (S.faults script.old) (C.moment clock.old) (C.faults clock.old)) (inputs (T.content tree.new) (T.faults tree.new) (S.left script.new) (S.faults script.new) (C.moment clock.new) (C.faults clock.new)) result.status }
-    ensures write_fault { result.status ≡ Status.WriteFault → OutputFails (outputs (E.taken err.old) (E.faults err.old) (K.taken out.old) (K.faults out.old)) (outputs (E.taken err.new) (E.faults err.new) (K.taken out.new) (K.faults out.new)) }
-    // Where the words are understood, all that their command needs is known and in order and no call on the outside failed,
-    // all is printed, or memory ran out.
-    ensures complete { (command : Command) → command_of (texts words.now) ≡ Some command
-        → IsReady command.offset (inputs (T.content tree.old) (T.faults tree.old) (S.left script.old) (S.faults script.old) (C.moment clock.old) (C.faults clock.old)) command.what → ¬ (InputFails (inputs (T.content tree.old) (T.faults tree.old) (S.left script.old) (S.faults script.old) (C.moment clock.old) (C.faults clock.old)) (inputs (T.content tree.new) (T.faults tree.new) (S.left script.new) (S.faults script.new) (C.moment clock.new) (C.faults clock.new))) → ¬ (OutputFails (outputs (E.taken err.old) (E.faults err.old) (K.taken out.old) (K.faults out.old)) (outputs (E.taken err.new) (E.faults err.new) (K.taken out.new) (K.faults out.new)))
-        → (result.status ≡ Status.Memory) ⊎ IsWhole command.what (inputs (T.content tree.new) (T.faults tree.new) (S.left script.new) (S.faults script.new) (C.moment clock.new) (C.faults clock.new)) result.status }
+    // What the words do, from the outside before it to the outside after it.
+    ensures runs { Runs (texts words.now)
+        (outside (files (T.content tree.old) (T.faults tree.old)) (bytes (S.left script.old) (S.faults script.old))
+        (shown (C.moment clock.old) (C.faults clock.old))
+        (bytes (K.taken out.old) (K.faults out.old)) (bytes (E.taken err.old) (E.faults err.old)))
+        (outside (files (T.content tree.new) (T.faults tree.new)) (bytes (S.left script.new) (S.faults script.new))
+        (shown (C.moment clock.new) (C.faults clock.new))
+        (bytes (K.taken out.new) (K.faults out.new)) (bytes (E.taken err.new) (E.faults err.new)))
+        result.status }
 {
-    match read_words(alloc, words) {
-        Ok(command) => run_tool(rt, alloc, &command, tree, script, clock, out, err),
-        Err(WordsError::Usage) => print(usage(alloc), out, err),
-        Err(WordsError::Memory) => Outcome {
-            status: Status::Memory,
-        },
-    }
+    run_words(rt, alloc, words, tree, script, clock, out, err)
 }

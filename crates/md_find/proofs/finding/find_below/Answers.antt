@@ -1,7 +1,9 @@
 use Rattle.std.proofs.Common.{length, refl, ap, sym, arith, Err}
+use Rattle.md_files.specs.Answers.{IsRead, InTurnSoFar}
 use Rattle.md_files.specs.Folders.{IsListed, AreRead}
 use Rattle.md_find.specs.declared.finding.SearchResult.TheVariants.{Report}
 use Rattle.md_find.specs.Folders.{files, nothing, full}
+use Rattle.md_find.specs.Folders.IsHeldSoFar.{without_fault, in_listing, in_files}
 use Rattle.md_find.proofs.Below.{too_many}
 use Rattle.md_find.proofs.finding.find_below.Goals as goal
 
@@ -40,3 +42,46 @@ returns-in-Err-Absent-clause-finds g c =
       held = (rw is at c.in-Err-Absent.ensures.cause, c.in-Err-Absent.ensures.absent (ap Err is));
       is = ap Report c.in_ok-absent-in-Err-Absent.ensures;
     }
+
+pub returns-then-len-gt-MOST_FILES-clause-so_far : goal.returns-then-len-gt-MOST_FILES-clause-so_far
+returns-then-len-gt-MOST_FILES-clause-so_far g c = without_fault c.in-Ok.ensures.cause
+
+pub returns-in_err-report-in-Ok-clause-so_far : goal.returns-in_err-report-in-Ok-clause-so_far
+returns-in_err-report-in-Ok-clause-so_far g c =
+    let known = g.T.Tree.content c.args.tree.now in
+    let before = g.T.Tree.faults c.args.tree.now in
+    let now = g.T.Tree.faults c.find_among.new.tree in
+    let entries = c.deref.result.now in
+    let listed : IsListed known c.args.spec.scope entries = rw c.deref.ensures.value c.in-Ok.ensures.listed in
+    let asked : InTurnSoFar (IsRead known) before now entries = rw (sym c.in-Ok.ensures.content, sym c.in-Ok.ensures.cause) c.in_err-report-in-Ok.ensures.so_far in
+    in_files entries listed (omega (arith, c.if-len-gt-MOST_FILES.false, c.len.ensures, ap length c.deref.ensures.value)) asked
+
+pub returns-in-Ok-clause-so_far : goal.returns-in-Ok-clause-so_far
+returns-in-Ok-clause-so_far g c =
+    let known = g.T.Tree.content c.args.tree.now in
+    let before = g.T.Tree.faults c.args.tree.now in
+    let now = g.T.Tree.faults c.find_among.new.tree in
+    let entries = c.deref.result.now in
+    let listed : IsListed known c.args.spec.scope entries = rw c.deref.ensures.value c.in-Ok.ensures.listed in
+    let asked : InTurnSoFar (IsRead known) before now entries = rw (sym c.in-Ok.ensures.content, sym c.in-Ok.ensures.cause) c.in_ok-report-in-Ok.ensures.so_far in
+    in_files entries listed (omega (arith, c.if-len-gt-MOST_FILES.false, c.len.ensures, ap length c.deref.ensures.value)) asked
+
+pub returns-in_err-absent-in-Err-Absent-clause-so_far : goal.returns-in_err-absent-in-Err-Absent-clause-so_far
+returns-in_err-absent-in-Err-Absent-clause-so_far g c =
+    let is = c.in-Err-Absent.field-0-is in
+    without_fault (rw is at c.in-Err-Absent.ensures.cause)
+
+pub returns-in-Err-Absent-clause-so_far : goal.returns-in-Err-Absent-clause-so_far
+returns-in-Err-Absent-clause-so_far g c =
+    let is = c.in-Err-Absent.field-0-is in
+    without_fault (rw is at c.in-Err-Absent.ensures.cause)
+
+pub returns-in_err-unlisted-in-Err-Failed-clause-so_far : goal.returns-in_err-unlisted-in-Err-Failed-clause-so_far
+returns-in_err-unlisted-in-Err-Failed-clause-so_far g c =
+    let is = c.in-Err-Failed.field-0-is in
+    in_listing (rw is at c.in-Err-Failed.ensures.cause)
+
+pub returns-in-Err-Failed-clause-so_far : goal.returns-in-Err-Failed-clause-so_far
+returns-in-Err-Failed-clause-so_far g c =
+    let is = c.in-Err-Failed.field-0-is in
+    in_listing (rw is at c.in-Err-Failed.ensures.cause)

@@ -4,6 +4,7 @@ use Rattle.std.proofs.lemmas.List.{nil_from_length}
 use Rattle.std.specs.List.{filter_map}
 use Rattle.md_value.specs.Values.{PathBytes, IsMoment}
 use Rattle.md_source.specs.declared.tree.Entry.{Entry}
+use Rattle.md_files.specs.Answers.{IsRead, InTurnSoFar}
 use Rattle.md_files.specs.Folders.{AreRead}
 use Rattle.md_find.specs.declared.testing.SeenFile.{SeenFile}
 use Rattle.md_find.specs.Files.{answers_of, entries_of, seen_file, hit_of, reason_of}
@@ -12,6 +13,7 @@ use Rattle.md_find.specs.Notes.{noted_all}
 use Rattle.md_find.proofs.Files.{moments_read}
 use Rattle.md_find.proofs.Among.{found_by}
 use Rattle.md_find.proofs.Gathered.{gathers_more}
+use Rattle.md_find.proofs.Joins.{so_far_join, so_far_all}
 use Rattle.md_find.proofs.finding.find_by.Goals as goal
 
 pub loop-rest-init : goal.loop-rest-init
@@ -63,3 +65,62 @@ returns-clause-found g c =
     let now = g.T.Tree.faults c.loop-rest.tree in
     found_by known was now c.args.output c.args.entries.now c.args.filter.now c.loop-rest.report c.push_out.new.self c.loop-rest.hits.items (rw (sym all) so.2) (string_bytes c.in_ok-text.text) text
     (c.in_ok-push_out.ensures ∙ ap (λ t. record c.loop-rest.report { out = c.loop-rest.report.out ++ t }) c.as_str.ensures.value)
+
+pub returns-in_err-files-clause-so_far : goal.returns-in_err-files-clause-so_far
+returns-in_err-files-clause-so_far g c =
+    let so = c.loop-rest.invariant in
+    let known = g.T.Tree.content c.args.tree.now in
+    let between = g.T.Tree.faults c.loop-rest.tree in
+    let now = g.T.Tree.faults c.read_files.new.tree in
+    let batch = c.first_batch.result.0.now in
+    let read : InTurnSoFar (IsRead known) between now batch = rw (sym so.3) c.in_err-files.ensures.so_far in
+    so_far_join (IsRead known) between _ now so.0 so.2.answers batch c.first_batch.result.1.now c.args.entries.now so.2.asked read
+    (ap (λ (left : List Entry). so.0 ++ left) c.first_batch.ensures.whole ∙ so.1)
+
+pub returns-in_err-files-2-clause-so_far : goal.returns-in_err-files-2-clause-so_far
+returns-in_err-files-2-clause-so_far g c =
+    let so = c.loop-rest.invariant in
+    let known = g.T.Tree.content c.args.tree.now in
+    let between = g.T.Tree.faults c.loop-rest.tree in
+    let now = g.T.Tree.faults c.read_files.new.tree in
+    let batch = c.first_batch.result.0.now in
+    let read : InTurnSoFar (IsRead known) between now batch = rw (sym so.3) c.in_ok-files.ensures.so_far in
+    so_far_join (IsRead known) between _ now so.0 so.2.answers batch c.first_batch.result.1.now c.args.entries.now so.2.asked read
+    (ap (λ (left : List Entry). so.0 ++ left) c.first_batch.ensures.whole ∙ so.1)
+
+pub returns-in_err-note-clause-so_far : goal.returns-in_err-note-clause-so_far
+returns-in_err-note-clause-so_far g c =
+    let so = c.loop-rest.invariant in
+    let known = g.T.Tree.content c.args.tree.now in
+    let between = g.T.Tree.faults c.loop-rest.tree in
+    let now = g.T.Tree.faults c.read_files.new.tree in
+    let batch = c.first_batch.result.0.now in
+    let read : InTurnSoFar (IsRead known) between now batch = rw (sym so.3) c.in_ok-files.ensures.so_far in
+    so_far_join (IsRead known) between _ now so.0 so.2.answers batch c.first_batch.result.1.now c.args.entries.now so.2.asked read
+    (ap (λ (left : List Entry). so.0 ++ left) c.first_batch.ensures.whole ∙ so.1)
+
+pub returns-in_err-keep-clause-so_far : goal.returns-in_err-keep-clause-so_far
+returns-in_err-keep-clause-so_far g c =
+    let so = c.loop-rest.invariant in
+    let known = g.T.Tree.content c.args.tree.now in
+    let between = g.T.Tree.faults c.loop-rest.tree in
+    let now = g.T.Tree.faults c.read_files.new.tree in
+    let batch = c.first_batch.result.0.now in
+    let read : InTurnSoFar (IsRead known) between now batch = rw (sym so.3) c.in_ok-files.ensures.so_far in
+    so_far_join (IsRead known) between _ now so.0 so.2.answers batch c.first_batch.result.1.now c.args.entries.now so.2.asked read
+    (ap (λ (left : List Entry). so.0 ++ left) c.first_batch.ensures.whole ∙ so.1)
+
+pub returns-in_err-text-clause-so_far : goal.returns-in_err-text-clause-so_far
+returns-in_err-text-clause-so_far g c =
+    let so = c.loop-rest.invariant in
+    so_far_all (IsRead (g.T.Tree.content c.args.tree.now)) _ _ so.0 so.2.answers c.loop-rest.rest.now c.args.entries.now so.2.asked so.1
+
+pub returns-in_err-push_out-clause-so_far : goal.returns-in_err-push_out-clause-so_far
+returns-in_err-push_out-clause-so_far g c =
+    let so = c.loop-rest.invariant in
+    so_far_all (IsRead (g.T.Tree.content c.args.tree.now)) _ _ so.0 so.2.answers c.loop-rest.rest.now c.args.entries.now so.2.asked so.1
+
+pub returns-clause-so_far : goal.returns-clause-so_far
+returns-clause-so_far g c =
+    let so = c.loop-rest.invariant in
+    so_far_all (IsRead (g.T.Tree.content c.args.tree.now)) _ _ so.0 so.2.answers c.loop-rest.rest.now c.args.entries.now so.2.asked so.1

@@ -1,9 +1,9 @@
-use Rattle.std.proofs.Common.{◌≡◌, ◌+◌, [], ◌∷◌, ◌++◌, take, sym, ◌∙◌, ap, arith}
+use Rattle.std.proofs.Common.{◌≡◌, ◌+◌, [], ◌∷◌, ◌++◌, take, refl, sym, ◌∙◌, ap, arith}
 use Rattle.std.proofs.lemmas.List.{map-append, take_more}
 use Rattle.md_source.specs.declared.tree.Entry.{Entry}
 use Rattle.md_files.specs.Answers.{IsRead}
 use Rattle.md_files.specs.Folders.{AreRead}
-use Rattle.md_files.proofs.Turns.{in_turn_more}
+use Rattle.md_files.proofs.Turns.{in_turn_more, kept_so_far, more_so_far}
 use Rattle.md_find.specs.declared.reading.ReadFile.{ReadFile}
 use Rattle.md_find.specs.Files.{prefix_answer, answer_of, answers_of, entries_of}
 use Rattle.md_find.proofs.reading.read_files.Goals as goal
@@ -33,3 +33,31 @@ loop-entry-preserved g c =
       content = c.in_ok-prefix.ensures.content ∙ before.content;
       later = omega (arith, before.later, c.in_ok-prefix.ensures.later);
     }
+
+pub returns-in_err-prefix-clause-so_far : goal.returns-in_err-prefix-clause-so_far
+returns-in_err-prefix-clause-so_far g c =
+    let l = c.loop-entry in
+    kept_so_far (IsRead (g.T.Tree.content c.args.tree.now)) _ _ _ c.args.entries.now l.entry-index (answers_of l.files.items) l.invariant.read c.in_err-prefix.ensures.kept
+
+pub returns-in_err-entry-clause-so_far : goal.returns-in_err-entry-clause-so_far
+returns-in_err-entry-clause-so_far g c =
+    let l = c.loop-entry in
+    let entries = c.args.entries.now in
+    let entry = c.entry-item.result in
+    let next = take_more entries l.entry-index entry c.loop-entry-test.true ∙ ap (λ (x : Entry). take l.entry-index entries ++ x ∷ []) (sym c.entry-item.is) in
+    more_so_far (IsRead (g.T.Tree.content c.args.tree.now)) _ _ _ entries l.entry-index (answers_of l.files.items) entry (prefix_answer entry c.in_ok-prefix.prefix) next l.invariant.read
+    (rw (sym l.invariant.content) c.in_ok-prefix.ensures.read)
+
+pub returns-in_err-push-clause-so_far : goal.returns-in_err-push-clause-so_far
+returns-in_err-push-clause-so_far g c =
+    let l = c.loop-entry in
+    let entries = c.args.entries.now in
+    let entry = c.entry-item.result in
+    let next = take_more entries l.entry-index entry c.loop-entry-test.true ∙ ap (λ (x : Entry). take l.entry-index entries ++ x ∷ []) (sym c.entry-item.is) in
+    more_so_far (IsRead (g.T.Tree.content c.args.tree.now)) _ _ _ entries l.entry-index (answers_of l.files.items) entry (prefix_answer entry c.in_ok-prefix.prefix) next l.invariant.read
+    (rw (sym l.invariant.content) c.in_ok-prefix.ensures.read)
+
+pub returns-clause-so_far : goal.returns-clause-so_far
+returns-clause-so_far g c =
+    let l = c.loop-entry in
+    kept_so_far (IsRead (g.T.Tree.content c.args.tree.now)) _ _ _ c.args.entries.now l.entry-index (answers_of l.files.items) l.invariant.read refl

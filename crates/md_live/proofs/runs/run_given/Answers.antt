@@ -8,4 +8,4 @@ pub returns : goal.returns
 returns c =
     c.into_report.ensures
     ∙ ap (λ (t : Telling). t.report) c.in_ok-session.ensures
-    ∙ known_all (actions_of c.args.setting.now.moment c.args.setting.now.offset c.args.lines.now c.args.givens.items)
+    ∙ known_all (actions_of c.args.start.now.moment c.args.start.now.offset c.args.lines.now c.args.givens.items)

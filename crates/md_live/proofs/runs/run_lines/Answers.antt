@@ -13,8 +13,8 @@ use Rattle.md_live.proofs.runs.run_lines.Goals as goal
 
 pub loop-line-preserved : goal.loop-line-preserved
 loop-line-preserved c =
-    let now = c.args.setting.now.moment in
-    let offset = c.args.setting.now.offset in
+    let now = c.args.start.now.moment in
+    let offset = c.args.start.now.offset in
     let l = c.loop-line in
     let line = c.in-Some.line.now in
     let given = c.in-Some.given in
@@ -41,16 +41,16 @@ loop-line-preserved c =
 
 pub line-requires-clause-timely : goal.line-requires-clause-timely
 line-requires-clause-timely c =
-    let now = c.args.setting.now.moment in
-    let offset = c.args.setting.now.offset in
+    let now = c.args.start.now.moment in
+    let offset = c.args.start.now.offset in
     let l = c.loop-line in
     let first = c.in-Some.ensures.steps.0 in
     (timely_then now offset c.in-Some.line.now (iter_rest (zip_first c.next.new.self)) (sym (ap (out_of_range now offset) first) ∙ l.invariant.timely)).0
 
 pub returns : goal.returns
 returns c =
-    let now = c.args.setting.now.moment in
-    let offset = c.args.setting.now.offset in
+    let now = c.args.start.now.moment in
+    let offset = c.args.start.now.offset in
     let l = c.loop-line in
     let lines = iter_rest (zip_first l.line-iterator) in
     let givens = into_iter_items (zip_second l.line-iterator) in

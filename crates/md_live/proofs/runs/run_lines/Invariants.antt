@@ -13,7 +13,7 @@ invariant-loop-line l =
     record {
       few : l.session.next + 3 * length (iter_rest (zip_first l.line-iterator)) ≤ 300_001;
       long : into_iter_len (zip_second l.line-iterator) ≡ length (into_iter_items (zip_second l.line-iterator));
-      timely : out_of_range l.setting.moment l.setting.offset (iter_rest (zip_first l.line-iterator)) ≡ None;
-      rest : after_actions l.session (actions_of l.setting.moment l.setting.offset (iter_rest (zip_first l.line-iterator)) (into_iter_items (zip_second l.line-iterator)))
-          ≡ after_actions unstarted (actions_of l.setting.moment l.setting.offset l.lines l.fn.givens.items);
+      timely : out_of_range l.start.moment l.start.offset (iter_rest (zip_first l.line-iterator)) ≡ None;
+      rest : after_actions l.session (actions_of l.start.moment l.start.offset (iter_rest (zip_first l.line-iterator)) (into_iter_items (zip_second l.line-iterator)))
+          ≡ after_actions unstarted (actions_of l.start.moment l.start.offset l.lines l.fn.givens.items);
     }

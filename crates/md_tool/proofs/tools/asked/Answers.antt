@@ -1,7 +1,7 @@
 use Rattle.std.proofs.Common.{inl, inr, sym, rules, FitsSigned, w32}
 use Rattle.std.proofs.lemmas.Int.{to_z-of_z}
 use Rattle.md_tool.specs.Outside.{Bytes, Shown}
-use Rattle.md_tool.proofs.Ending.{ok_then, err_then, live_asks, live_tells_first}
+use Rattle.md_tool.proofs.Ending.{ok_then, err_then, live_asks, live_tells_first, live_so_far}
 use Rattle.md_tool.proofs.tools.asked.Goals as goal
 
 pub returns-in-Show-clause-asks : goal.returns-in-Show-clause-asks
@@ -63,3 +63,17 @@ returns-in-Find-clause-tells g c =
           (c.find.ensures.tells script c.in-Find.zero c.in-Find.count c.in-Find.name c.in-Find.mode c.in-Find.text read)
       | inr want ↦ err_then _ c.find.result (c.find.ensures.memory want)
     ]
+
+pub returns-in-Show-clause-so_far : goal.returns-in-Show-clause-so_far
+returns-in-Show-clause-so_far g c = rw c.in-Show.is (simp c.as_slice-in-Show.ensures at c.show.ensures.so_far)
+
+pub returns-in-Import-clause-so_far : goal.returns-in-Import-clause-so_far
+returns-in-Import-clause-so_far g c = rw c.in-Import.is (simp c.as_slice-in-Import.ensures at c.import.ensures.so_far)
+
+pub returns-in-Live-None-clause-so_far : goal.returns-in-Live-None-clause-so_far
+returns-in-Live-None-clause-so_far g c =
+    let fits : FitsSigned w32 c.args.command.now.offset = search rules in
+    live_so_far _ _ _ _ _ c.in-Live-None.is (simp to_z-of_z at c.live.ensures.so_far)
+
+pub returns-in-Find-clause-so_far : goal.returns-in-Find-clause-so_far
+returns-in-Find-clause-so_far g c = rw c.in-Find.is c.find.ensures.so_far

@@ -1,5 +1,14 @@
-use Rattle.md_tool.proofs.Ending.{ends_of}
 use Rattle.md_tool.proofs.top.run_tool.Goals as goal
 
-pub returns-clause-ends : goal.returns-clause-ends
-returns-clause-ends g c = ends_of _ _ _ _ c.asked-report.result c.asked-report.ensures.asks c.print.ensures.prints c.print.ensures.memory
+pub returns : goal.returns
+returns g c =
+    record {
+      runs = record {
+        ends = c.run_command.ensures.ends;
+        leaves = c.run_command.ensures.leaves;
+        so_far = c.run_command.ensures.so_far;
+        tells = c.run_command.ensures.tells;
+        write_fault = c.run_command.ensures.write_fault;
+        complete = λ ready none. c.run_command.ensures.complete ready none.inputs none.outputs;
+      };
+    }

@@ -4,8 +4,8 @@ use Rattle.md_tool.specs.Reports.{Report}
 use Rattle.md_tool.specs.Asking.{Prints}
 use Rattle.md_tool.specs.Asking.Prints.{no_room}
 use Rattle.md_tool.proofs.Ending.{prints_whole, prints_part}
-use Rattle.md_tool.proofs.top.print.Goals as goal
-use Rattle.md_tool.proofs.top.print.Goals.{in-Ok-put_texts, in-Err-Failed, in-Err-Memory}
+use Rattle.md_tool.proofs.running.print.Goals as goal
+use Rattle.md_tool.proofs.running.print.Goals.{in-Ok-put_texts, in-Err-Failed, in-Err-Memory}
 
 pub returns-clause-prints : goal.returns-clause-prints
 returns-clause-prints g c =
