@@ -3,7 +3,9 @@ use crate::examples::comparing::Printed;
 use crate::examples::example::Example;
 use crate::examples::fault::Fault;
 use crate::examples::header::Stream;
-use md_source::{MemoryClock, MemorySink, MemorySource, MemoryTree, is_content};
+use md_source::{
+    Clock, MemoryClock, MemorySink, MemorySource, MemoryTree, Sink, Source, Tree, is_content,
+};
 use md_tool::{Status, run};
 use md_value::{HIGH, LOW};
 use std::alloc::Global;
@@ -122,16 +124,16 @@ fn ran<R: Threads + Sync>(
     Ok((got, wanted))
 }
 
-// The status of a run of the top call. What its contract says is no concern of the caller's.
-fn status_of<R: Threads + Sync>(
+// The status of a run of the top call, over any objects. What its contract says is no concern of the caller's.
+fn status_of<R: Threads + Sync, T: Tree, S: Source, C: Clock, K: Sink, E: Sink>(
     rt: &R,
     alloc: Global,
     words: &[String],
-    tree: &mut MemoryTree,
-    source: &mut MemorySource,
-    clock: &mut MemoryClock,
-    out: &mut MemorySink,
-    err: &mut MemorySink,
+    tree: &mut T,
+    source: &mut S,
+    clock: &mut C,
+    out: &mut K,
+    err: &mut E,
 ) -> Status {
     run(rt, alloc, words, tree, source, clock, out, err).status
 }
