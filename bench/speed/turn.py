@@ -1,0 +1,224 @@
+#!/usr/bin/env python3
+"""Times acts on a server behind a turn lock, beside a `Mutex` round the same server in plain Rust: builds both programs in a
+temporary folder, with `rt` and with `rustc -O`, and runs them.
+
+A thread draws a ticket for a path of its own and closes it, by turns; each act gets an entry in the one journal. Prints a line
+for 1, 2, 4 and 8 threads, which make 800,000 acts in all: acts in a second, three times. Needs `rt` and `rustc` in the path,
+Python 3, and some minutes."""
+
+import programs
+
+USED = ["md_turn", "md_hub", "md_machine", "md_world", "md_value"]
+
+PROGRAM = """//! Times acts on a server behind a turn lock.
+#![tactic(auto)]
+ghost use Rattle.std.specs.Prelude.{◌≡◌, ◌+◌};
+
+use md_hub::Hub;
+use md_machine::{Event, Reply};
+use md_turn::{Pass, Turn};
+use md_value::{Copied, Path};
+use md_world::Limits;
+use std::alloc::{AllocError, Global};
+use std::thread::join;
+use std::time::Instant;
+
+const ACTS: u64 = 800_000;
+
+fn event(alloc: Global, path: &Path, number: u64, ticket: u32) -> Result<Event, AllocError> {
+    if number % 2 == 0 {
+        Ok(Event::Draw { path: path.copy(alloc)? })
+    } else {
+        Ok(Event::Close { ticket })
+    }
+}
+
+// The ticket that was drawn last after one act, or 0 where there was none.
+fn act(rt: &HostRuntime, turn: &Turn<Hub>, pass: &mut Pass, path: &Path, number: u64, ticket: u32) -> u32
+    requires { pass.old.id ≡ turn.now.id }
+    ensures { (pass.new.id ≡ pass.old.id) × (pass.new.share ≡ pass.old.share) }
+{
+    if pass.made() == pass.share() {
+        return 0;
+    }
+    let Ok(event) = event(rt.alloc(), path, number, ticket) else {
+        return 0;
+    };
+    match turn.act(rt, pass, event) {
+        Ok((_, Reply::Ticket(drawn))) => drawn,
+        _ => ticket,
+    }
+}
+
+fn act_often(rt: &HostRuntime, turn: &Turn<Hub>, pass: &mut Pass, path: &Path, acts: u64)
+    requires { pass.old.id ≡ turn.now.id }
+    ensures { (pass.new.id ≡ pass.old.id) × (pass.new.share ≡ pass.old.share) }
+{
+    let mut ticket = 0;
+    for number in 0..acts {
+        ticket = act(rt, turn, pass, path, number, ticket);
+    }
+}
+
+fn split_half(turn: &Turn<Hub>, pass: &mut Pass) -> Pass
+    requires { pass.old.id ≡ turn.now.id }
+    ensures ids { (pass.new.id ≡ pass.old.id) × (result.id ≡ pass.old.id) }
+    ensures shares { pass.new.share + result.share ≡ pass.old.share }
+{
+    let left = pass.share() - pass.made();
+    turn.split(pass, left / 2).unwrap()
+}
+
+fn act_by_threads(rt: &HostRuntime, turn: &Turn<Hub>, mut pass: Pass, path: &Path, threads: u8, acts: u64) -> Pass
+    requires { pass.id ≡ turn.now.id }
+    ensures { (result.id ≡ pass.id) × (result.share ≡ pass.share) }
+{
+    if threads <= 1 {
+        act_often(rt, turn, &mut pass, path, acts);
+        return pass;
+    }
+    let half = threads / 2;
+    let other = split_half(turn, &mut pass);
+    let (mut here, there) = join(
+        rt,
+        || -> Pass
+            requires { pass.id ≡ turn.now.id }
+            ensures { (result.id ≡ pass.id) × (result.share ≡ pass.share) }
+        { act_by_threads(rt, turn, pass, path, half, acts) },
+        || -> Pass
+            requires { other.id ≡ turn.now.id }
+            ensures { (result.id ≡ other.id) × (result.share ≡ other.share) }
+        { act_by_threads(rt, turn, other, path, threads - half, acts) },
+    );
+    turn.join(&mut here, there);
+    here
+}
+
+fn time_acts(rt: &HostRuntime, threads: u8) -> anyhow::Result<()> {
+    let alloc = rt.alloc();
+    let Ok(path) = Path::read(alloc, "a.txt") else {
+        return Ok(());
+    };
+    let (turn, pass) = Turn::new(alloc, Hub::new(alloc, Limits::STANDARD))?;
+    let start = Instant::now(rt)?;
+    let pass = act_by_threads(rt, &turn, pass, &path, threads, ACTS / u64::from(threads.max(1)));
+    let spent = start.elapsed(rt)?.as_micros().max(1);
+    let (_, journal) = turn.close(vec![in alloc; pass]?);
+    println!(rt; "turn, {threads} threads: {} entries, {} acts in a second", journal.len(), journal.len() as u128 * 1_000_000 / spent)?;
+    Ok(())
+}
+
+fn main(rt: HostRuntime) -> anyhow::Result<()> {
+    for threads in [1, 2, 4, 8, 1, 2, 4, 8, 1, 2, 4, 8] {
+        time_acts(&rt, threads)?;
+    }
+    Ok(())
+}
+"""
+
+PLAIN = """use std::sync::Mutex;
+use std::time::Instant;
+
+const ACTS: u64 = 800_000;
+
+enum Event {
+    Draw { path: String },
+    Close { ticket: u32 },
+}
+
+#[derive(Clone, Copy)]
+enum Reply {
+    Ticket(u32),
+    Closed,
+    NoTicket,
+}
+
+struct Ticket {
+    number: u32,
+    path: String,
+}
+
+#[allow(dead_code)]
+struct Entry {
+    place: u64,
+    event: Event,
+    reply: Reply,
+}
+
+#[derive(Default)]
+struct Hub {
+    drawn: u32,
+    tickets: Vec<Ticket>,
+}
+
+impl Hub {
+    fn step(&mut self, event: &Event) -> Reply {
+        match event {
+            Event::Draw { path } => {
+                self.drawn += 1;
+                self.tickets.push(Ticket { number: self.drawn, path: path.clone() });
+                Reply::Ticket(self.drawn)
+            }
+            Event::Close { ticket } => match self.tickets.iter().position(|open| open.number == *ticket) {
+                Some(place) => {
+                    drop(self.tickets.remove(place).path);
+                    Reply::Closed
+                }
+                None => Reply::NoTicket,
+            },
+        }
+    }
+}
+
+#[derive(Default)]
+struct Held {
+    hub: Hub,
+    journal: Vec<Entry>,
+}
+
+impl Held {
+    fn act(&mut self, event: Event) -> (u64, Reply) {
+        let reply = self.hub.step(&event);
+        let place = self.journal.len() as u64 + 1;
+        self.journal.push(Entry { place, event, reply });
+        (place, reply)
+    }
+}
+
+fn act_often(held: &Mutex<Held>, path: &str, acts: u64) {
+    let mut ticket = 0;
+    for number in 0..acts {
+        let event = if number % 2 == 0 { Event::Draw { path: path.to_string() } } else { Event::Close { ticket } };
+        if let (_, Reply::Ticket(drawn)) = held.lock().unwrap().act(event) {
+            ticket = drawn;
+        }
+    }
+}
+
+fn time_acts(threads: u64) {
+    let held = Mutex::new(Held::default());
+    let start = Instant::now();
+    std::thread::scope(|scope| {
+        for _ in 0..threads {
+            scope.spawn(|| act_often(&held, "a.txt", ACTS / threads));
+        }
+    });
+    let spent = start.elapsed().as_micros().max(1);
+    let entries = held.into_inner().unwrap().journal.len();
+    println!("mutex, {threads} threads: {entries} entries, {} acts in a second", entries as u128 * 1_000_000 / spent);
+}
+
+fn main() {
+    for threads in [1, 2, 4, 8, 1, 2, 4, 8, 1, 2, 4, 8] {
+        time_acts(threads);
+    }
+}
+"""
+
+
+def main():
+    programs.compare(USED, PROGRAM, PLAIN)
+
+
+if __name__ == "__main__":
+    main()

@@ -1,0 +1,14 @@
+use denote.Struct.Declared as struct
+use denote.Param.Send.{IsSend, sendable, plain_send, struct_send, recorded_send}
+use Rattle.md_hub.proofs.Crossing.{hub_sends}
+use Rattle.md_tests.specs.contracts.sparing.Sparing as sparing
+use Rattle.md_tests.proofs.turns.act_on_sparing.Goals as goal
+
+sparing_sends : IsSend sparing.the_row
+sparing_sends = recorded_send (sparing.the_field).row _ _ (sparing.the_type).to_one (struct_send (struct.shape sparing.the_type) (hub_sends, (plain_send _ _ _ _ _, tt)))
+
+pub act_by_threads-requires-send-C : goal.act_by_threads-requires-send-C
+act_by_threads-requires-send-C g c κs within = search (sendable, sparing_sends) depth 20
+
+pub act_by_threads-requires-clause-sends : goal.act_by_threads-requires-clause-sends
+act_by_threads-requires-clause-sends g c κs within = (search (sendable, sparing_sends) depth 20, search (sendable, c.type_bounds.sync-R) depth 20)
