@@ -2,3 +2,4 @@ pub mod Edges
 pub mod Plans
 pub mod Found
 pub mod Hits
+pub mod Ordered

@@ -5,11 +5,15 @@ ghost use Rattle.md_world.specs.declared.Row.{Row as AnyRow};
 ghost use Rattle.md_match.specs.Candidates.{everything, smallest, union};
 ghost use Rattle.md_index.specs.Indexed.{Holds};
 ghost use Rattle.md_plan.specs.Plans.{probe_set, plan_set};
+ghost use Rattle.std.specs.List.Sorted.{IsPermutation};
+ghost use Rattle.md_plan.specs.Ordered.{newest_of, AreInPathOrder};
 ghost use Rattle.md_plan.specs.Found.{places_of, size_of, AreAll, IsFound};
 
+use crate::ordered::in_path_order;
 use crate::places::{at_most, fewer, join, joined};
 use crate::plan::Plan;
 use md_index::{Index, Probe};
+use md_store::Store;
 use md_world::TEXT_CONTENT;
 use std::alloc::{AllocError, Global};
 
@@ -113,5 +117,19 @@ impl Plan {
             Some(all) => Ok(all),
             None => Ok(Vec::new(alloc)),
         }
+    }
+
+    /// The same places in the order of their paths, where the index has the newest rows of the store. Reads no row.
+    pub fn places(
+        &self,
+        alloc: Global,
+        index: &Index,
+        store: &Store,
+    ) -> Result<Vec<u32>, AllocError>
+        ensures same { IfOk result (λ found. (all : List ℕ) → Holds index.now (newest_of store.now) → AreAll (newest_of store.now) all → length all < 2 ^ 64 → IsPermutation (places_of (newest_of store.now) all (plan_set (size_of (newest_of store.now) all) self.now)) found.items) }
+        ensures ordered { IfOk result (λ found. AreInPathOrder store.now found.items) }
+    {
+        let found = self.find(alloc, index)?;
+        in_path_order(alloc, &found, store)
     }
 }

@@ -8,6 +8,7 @@
 mod compare;
 mod find;
 pub mod laws;
+mod ordered;
 mod places;
 mod plan;
 mod want;
