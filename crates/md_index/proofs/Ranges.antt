@@ -16,7 +16,8 @@ use Rattle.md_world.specs.declared.Row.{Row}
 use Rattle.md_world.proofs.Lookups.{by_test}
 use Rattle.md_index.specs.declared.between.Probe.{Probe}
 use Rattle.md_index.specs.declared.places.Places.{Places}
-use Rattle.md_index.specs.Order.{value_equiv, value_total}
+use Rattle.md_world.specs.Values.{value_total}
+use Rattle.md_index.specs.Order.{value_equiv}
 use Rattle.md_index.specs.Between.{is_between}
 use Rattle.md_index.specs.Facts.{values_named, has_value, row_has}
 use Rattle.md_index.specs.States.{is_on, place_state, state_in, value_state, named_state, state}

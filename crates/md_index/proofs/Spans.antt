@@ -19,7 +19,7 @@ use Rattle.md_index.specs.declared.between.Edge.{Edge}
 use Rattle.md_index.specs.declared.between.Edge.TheVariants as edge
 use Rattle.md_index.specs.declared.between.Probe.{Probe}
 use Rattle.md_index.specs.Between.{parts, mark_of, mark_cmp, is_above, is_below, is_between}
-use Rattle.md_index.specs.Order.{value_total}
+use Rattle.md_world.specs.Values.{value_total}
 use Rattle.md_index.specs.Spans.{IsFloor, IsFloorOf, bound_at, is_forward, is_within, within}
 use Rattle.md_index.specs.States.{is_on, place_state}
 use Rattle.md_index.specs.declared.places.Places.{Places}

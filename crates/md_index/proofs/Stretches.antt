@@ -24,7 +24,8 @@ use Rattle.md_index.specs.declared.between.Probe.{Probe}
 use Rattle.md_index.specs.declared.keyed.Keyed.{Keyed}
 use Rattle.md_index.specs.declared.places.Places.{Places}
 use Rattle.md_index.specs.declared.stretch.Stretch.{Stretch}
-use Rattle.md_index.specs.Order.{name_total, value_total}
+use Rattle.md_world.specs.Values.{value_total}
+use Rattle.md_index.specs.Order.{name_total}
 use Rattle.md_index.specs.Between.{mark_of, is_above, is_below, is_between, is_key_between}
 use Rattle.md_index.specs.States.{is_on, value_state}
 use Rattle.md_index.specs.Spans.{bound_at}

@@ -21,7 +21,7 @@ use Rattle.md_index.specs.declared.keyed.Keyed.{Keyed}
 use Rattle.md_index.specs.declared.wanted.Wanted.{Wanted}
 use Rattle.md_index.specs.declared.stretch.Stretch.{Stretch}
 use Rattle.md_index.specs.declared.places.Places.{Places}
-use Rattle.md_index.specs.Order.{value_total}
+use Rattle.md_world.specs.Values.{value_total}
 use Rattle.md_index.specs.Between.{mark_of, is_key_between}
 use Rattle.md_index.specs.States.{is_on, value_state}
 

@@ -15,54 +15,8 @@ use Rattle.md_value.specs.declared.value.Value.TheVariants as value
 use Rattle.md_value.proofs.Orders.{same_refl}
 use Rattle.md_world.specs.declared.Row.{Row}
 use Rattle.md_world.specs.declared.order.SortKey.{SortKey}
-use Rattle.md_world.specs.Orders.{rank, value_cmp, first_value, first_cmp, key_cmp, row_cmp, row_before}
-
--- the contents of a value, kind by kind
-text_of : Value → List ℕ
-text_of (value.Text text) = text
-text_of _ = []
-
-number_of : Value → ℤ
-number_of (value.Number number) = number
-number_of (value.Moment moment) = moment
-number_of _ = ℤ.pos 0
-
-flag_of : Value → Bool
-flag_of (value.Flag flag) = flag
-flag_of _ = false
-
--- by kind, and then by content
-abbrev parts_cmp : Value → Value → Ordering
-parts_cmp = then_cmp (on rank nat_cmp) (then_cmp (on text_of (slice_cmp nat_cmp)) (then_cmp (on number_of int_cmp) (on flag_of bool_cmp)))
-
-then_equal : (o : Ordering) → ordering_then o Equal ≡ o
-then_equal Less = refl
-then_equal Equal = refl
-then_equal Greater = refl
-
-by_parts : (a b : Value) → parts_cmp a b ≡ value_cmp a b
-unfolding text_of number_of flag_of
-by_parts (value.Text a) (value.Text b) = then_equal (slice_cmp nat_cmp a b)
-by_parts (value.Text a) (value.Number b) = refl
-by_parts (value.Text a) (value.Flag b) = refl
-by_parts (value.Text a) (value.Moment b) = refl
-by_parts (value.Number a) (value.Text b) = refl
-by_parts (value.Number a) (value.Number b) = then_equal (int_cmp a b)
-by_parts (value.Number a) (value.Flag b) = refl
-by_parts (value.Number a) (value.Moment b) = refl
-by_parts (value.Flag a) (value.Text b) = refl
-by_parts (value.Flag a) (value.Number b) = refl
-by_parts (value.Flag a) (value.Flag b) = refl
-by_parts (value.Flag a) (value.Moment b) = refl
-by_parts (value.Moment a) (value.Text b) = refl
-by_parts (value.Moment a) (value.Number b) = refl
-by_parts (value.Moment a) (value.Flag b) = refl
-by_parts (value.Moment a) (value.Moment b) = then_equal (int_cmp a b)
-
-value_total : IsTotalOrder value_cmp
-value_total =
-    subst IsTotalOrder (λ i a b. by_parts a b i)
-    (then_total (on_total rank nat_cmp_total) (then_total (on_total text_of nat_list_cmp_total) (then_total (on_total number_of int_cmp_total) (on_total flag_of bool_cmp_total))))
+use Rattle.md_world.specs.Values.{value_total}
+use Rattle.md_world.specs.Orders.{value_cmp, first_value, first_cmp, key_cmp, row_cmp, row_before}
 
 -- two values the other way round, where ascending ones are asked for
 abbrev turned_cmp : Bool → Value → Value → Ordering

@@ -7,12 +7,14 @@ ghost use Rattle.md_world.specs.Tables.{shown, same_row};
 mod laws;
 mod order;
 mod steps;
+mod values;
 
 pub use laws::limits_are_standard;
 use md_value::{Attrs, Copied, Items, Path};
 pub use order::{NotShown, Order, SortKey};
 use std::alloc::{AllocError, Global};
 pub use steps::Steps;
+pub use values::value_cmp;
 
 /// The attribute that is searched and not shown.
 pub const TEXT_CONTENT: &str = "kMDItemTextContent";
