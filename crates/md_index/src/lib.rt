@@ -4,7 +4,7 @@
 mod between;
 mod blocks;
 mod facts;
-mod held;
+mod value_key;
 mod index;
 mod keyed;
 mod keys;
