@@ -130,28 +130,52 @@ fn draw_and_put(alloc: Global, events: &mut Vec<Event>, ticket: u32) -> Result<(
     Ok(())
 }
 
+// A file is put, and a query of it created.
+fn queried(alloc: Global) -> Result<Vec<Event>, Fail> {
+    let mut events = Vec::new(alloc);
+    draw_and_put(alloc, &mut events, 1)?;
+    events.push(create(alloc)?)?;
+    Ok(events)
+}
+
+// Then the file is put twice again.
+fn put_again(alloc: Global) -> Result<Vec<Event>, Fail> {
+    let mut events = queried(alloc)?;
+    draw_and_put(alloc, &mut events, 2)?;
+    draw_and_put(alloc, &mut events, 3)?;
+    Ok(events)
+}
+
+// Then rows are given up.
+fn given_up(alloc: Global) -> Result<Vec<Event>, Fail> {
+    let mut events = put_again(alloc)?;
+    events.push(Event::Vacuum { client: 0 })?;
+    Ok(events)
+}
+
+// Then the query is stopped, and rows are given up again.
+fn stopped(alloc: Global) -> Result<Vec<Event>, Fail> {
+    let mut events = given_up(alloc)?;
+    events.push(Event::Stop {
+        client: 0,
+        number: 1,
+    })?;
+    events.push(Event::Vacuum { client: 0 })?;
+    Ok(events)
+}
+
 // How many rows the server keeps after these events.
-fn kept(alloc: Global, events: &[Event]) -> Result<usize, Fail> {
-    let (hub, _) = run(alloc, Limits::STANDARD, events)?;
+fn kept(alloc: Global, events: Result<Vec<Event>, Fail>) -> Result<usize, Fail> {
+    let (hub, _) = run(alloc, Limits::STANDARD, &events?)?;
     Ok(hub.kept())
 }
 
 #[test]
 fn a_vacuum_keeps_what_a_query_sees(rt: HostRuntime) -> Result<(), Fail> {
     let alloc = rt.alloc();
-    let mut events = Vec::new(alloc);
-    draw_and_put(alloc, &mut events, 1)?;
-    events.push(create(alloc)?)?;
-    draw_and_put(alloc, &mut events, 2)?;
-    draw_and_put(alloc, &mut events, 3)?;
-    assert_eq!(rt; kept(alloc, &events)?, 3);
-    events.push(Event::Vacuum { client: 0 })?;
-    assert_eq!(rt; kept(alloc, &events)?, 2);
-    events.push(Event::Stop {
-        client: 0,
-        number: 1,
-    })?;
-    events.push(Event::Vacuum { client: 0 })?;
-    assert_eq!(rt; kept(alloc, &events)?, 1);
+    let before = kept(alloc, put_again(alloc))?;
+    let pinned = kept(alloc, given_up(alloc))?;
+    let after = kept(alloc, stopped(alloc))?;
+    assert_eq!(rt; (before, pinned, after), (3, 2, 1));
     Ok(())
 }
