@@ -1,4 +1,5 @@
 pub mod Texts
+pub mod Readings
 pub mod Numbers
 pub mod Tables
 pub mod Cuts
