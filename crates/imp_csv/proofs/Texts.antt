@@ -1,19 +1,16 @@
 -- How a text is read into records, from one state to the next.
-use Rattle.std.proofs.Common.{◌≡◌, inl, inr, ℕ, zero, suc, ◌+◌, ◌<◌, ◌≤◌, ◌==◌, ◌||◌, not, Bool, true, false, cond, List, [], ◌∷◌, ◌++◌, length, Option, Some, None, refl, sym, ap, ◌∙◌, arith, append_assoc, append-nil, take, drop, add-one}
+use Rattle.std.proofs.Common.{◌≡◌, ℕ, zero, suc, ◌+◌, ◌<◌, ◌≤◌, ◌==◌, ◌||◌, not, Bool, true, false, cond, List, [], ◌∷◌, ◌++◌, length, Option, Some, None, refl, sym, ap, ◌∙◌, arith, append_assoc, append-nil, take, drop, add-one}
 use Rattle.std.specs.List.{position, position_or_len}
 use Rattle.std.specs.Str.{IsCharBoundary}
 use Rattle.std.specs.Prelude.{unwrap_or, IsUtf8, nat_lt, get_or}
-use Rattle.std.proofs.lemmas.List.{take_more, take_all, drop_more, drop_all}
-use Rattle.std.proofs.lemmas.Bool.{cases_lt}
+use Rattle.std.proofs.lemmas.List.{take_all, drop_all}
 use Rattle.std.proofs.lemmas.Bool.Decides.{nat_tests}
 use Rattle.std.proofs.lemmas.Str.{IsCharBoundary-before_ascii, IsCharBoundary-after_ascii}
 use Rattle.csv.specs.Machine.{step, start_field, next_record, Read}
 use Rattle.csv.specs.Reading.{default_config, records, records_from, records_next}
-use Rattle.csv.specs.Records.{field_at}
 use Rattle.csv.specs.declared.parser.State.{State}
 use Rattle.csv.specs.declared.parser.State.TheVariants as st
 use Rattle.csv.specs.declared.parser.Action.TheVariants as act
-use Rattle.csv.proofs.RecordFacts.{field-get, field-there, field-none}
 use Rattle.imp_csv.specs.Tables.{Row}
 use Rattle.imp_csv.specs.Records.{records_at, ends_field, begins_with, begins_line, IsEnded, IsLineEnded}
 
@@ -258,28 +255,3 @@ other_end false b e f = e
 pub line_ended : (xs : List ℕ) → IsEnded xs → begins_with 44 xs ≡ false → IsLineEnded xs
 line_ended [] ended none = tt
 line_ended (byte ∷ rest) ended none = other_end (byte == 44) ((byte == 13) || (byte == 10)) ended none
-
--- ---- the places of fields
-
-none_field : {x : List ℕ} → None ≡ Some x → ⊥
-none_field e = cc
-
--- one more field
-pub take_field : (fields : List (List ℕ)) (i : ℕ) (x : List ℕ) → field_at fields i ≡ Some x → take (i + 1) fields ≡ take i fields ++ x ∷ []
-take_field fields i x e =
-    let lt : i < length fields = elim (cases_lt i (length fields)) [ inl lt ↦ lt | inr ge ↦ absurd (none_field (sym (field-none fields i ge) ∙ e)) ] in
-    take_more fields i [] lt ∙ ap (λ y. take i fields ++ y ∷ []) (field-get fields i x e)
-
--- all fields
-pub take_fields : (fields : List (List ℕ)) (i : ℕ) → field_at fields i ≡ None → take i fields ≡ fields
-take_fields fields i e = elim (cases_lt i (length fields)) [ inl lt ↦ absurd (field-there fields i lt e) | inr ge ↦ take_all i fields ge ]
-
--- the next field, and then the others
-pub drop_field : (fields : List (List ℕ)) (i : ℕ) (x : List ℕ) → field_at fields i ≡ Some x → drop i fields ≡ x ∷ drop (i + 1) fields
-drop_field fields i x e =
-    let lt : i < length fields = elim (cases_lt i (length fields)) [ inl lt ↦ lt | inr ge ↦ absurd (none_field (sym (field-none fields i ge) ∙ e)) ] in
-    drop_more fields i [] lt ∙ ap (λ y. y ∷ drop (i + 1) fields) (field-get fields i x e)
-
--- no more fields
-pub drop_fields : (fields : List (List ℕ)) (i : ℕ) → field_at fields i ≡ None → drop i fields ≡ []
-drop_fields fields i e = elim (cases_lt i (length fields)) [ inl lt ↦ absurd (field-there fields i lt e) | inr ge ↦ drop_all i fields ge ]

@@ -1,11 +1,18 @@
 -- Records that lie one after another in one list of fields, and how a text is read into them.
 use Rattle.std.specs.Prelude.{◌≡◌, ◌++◌, ◌==◌, ◌||◌, ◌≤◌, ◌<◌, ⊤, ℕ, Bool, true, false, List, [], ◌∷◌, length, take, drop, if◌then◌else◌, Option, Some, None}
+use Rattle.std.specs.Str.{IsCharBoundary}
 use Rattle.csv.specs.Machine.{step, is_end, fields_after, field_after, ends_at_end}
 use Rattle.csv.specs.Reading.{default_config}
 use Rattle.csv.specs.declared.parser.State.{State}
 use Rattle.csv.specs.declared.parser.State.TheVariants as st
 use Rattle.md_value.specs.Values.{is_same}
 use Rattle.imp_csv.specs.Tables.{Row, is_at}
+
+-- where the fields of a text end, of which the first begins at a place: the ends do not fall, the text may be cut at each, and
+-- the last is its own
+unfoldable pub AreEnds : ℕ → List ℕ → List ℕ → Type 0
+AreEnds start [] text = start ≡ length text
+AreEnds start (end ∷ ends) text = (start ≤ end) × IsCharBoundary text end × AreEnds end ends text
 
 -- the records of these lengths that the fields are
 unfoldable pub cut : List ℕ → List (List ℕ) → List Row
