@@ -1,293 +1,257 @@
--- The fields of a text are text, and its records are a function of it.
-use Rattle.std.proofs.Common.{◌≡◌, ◌⊎◌, inl, inr, ℕ, suc, ◌+◌, ◌<◌, ◌≤◌, ◌==◌, Bool, true, false, cond, List, [], ◌∷◌, ◌++◌, length, Option, Some, None, refl, sym, ap, ◌∙◌, subst, arith, append_assoc, append-nil, ⊎_elim, zero, get_or, ap₂, take, drop, length-append}
-use Rattle.std.proofs.Math.Seq.{get_or-append_seam}
-use Rattle.std.specs.Prelude.{unwrap_or}
-use Rattle.std.proofs.lemmas.Bool.{and_parts}
-use Rattle.std.proofs.lemmas.List.{take_more, take_all, drop_more, drop_all}
-use Rattle.std.proofs.lemmas.Bool.{cases_Bool, cases_lt}
+-- How a text is read into records, from one state to the next.
+use Rattle.std.proofs.Common.{◌≡◌, ℕ, zero, suc, ◌+◌, ◌<◌, ◌≤◌, ◌==◌, ◌||◌, not, Bool, true, false, cond, List, [], ◌∷◌, ◌++◌, length, Option, Some, None, refl, sym, ap, ◌∙◌, arith, append_assoc, append-nil, take, drop, add-one}
+use Rattle.std.specs.List.{position, position_or_len}
+use Rattle.std.specs.Str.{IsCharBoundary}
+use Rattle.std.specs.Prelude.{unwrap_or, IsUtf8, nat_lt, get_or}
+use Rattle.std.proofs.lemmas.List.{take_all, drop_all}
 use Rattle.std.proofs.lemmas.Bool.Decides.{nat_tests}
-use Rattle.std.proofs.lemmas.Str.{encode_ascii, IsUtf8-append, IsUtf8-nil, IsUtf8-past_char}
-use Rattle.std.specs.Prelude.{IsUtf8}
-use lib.Utf8.{encode, encodes, scalar, scalars}
-use lib.Dec.{ltb}
-use Rattle.csv.specs.Machine.{Read, step, next_record, is_end, fields_after, field_after, ends_at_end, Runs}
-use Rattle.csv.specs.Reading.{default_config, is_bom, strip_bom, Reached, AreRecords, records, records_from}
-use Rattle.csv.specs.Records.{AllText, field_at}
+use Rattle.std.proofs.lemmas.Str.{IsCharBoundary-before_ascii, IsCharBoundary-after_ascii}
+use Rattle.csv.specs.Machine.{step, start_field, next_record, Read}
+use Rattle.csv.specs.Reading.{default_config, records, records_from, records_next}
 use Rattle.csv.specs.declared.parser.State.{State}
 use Rattle.csv.specs.declared.parser.State.TheVariants as st
-use Rattle.csv.specs.declared.parser.Action.{Action}
 use Rattle.csv.specs.declared.parser.Action.TheVariants as act
-use Rattle.csv.proofs.ReadFacts.{run-copies}
-use Rattle.csv.proofs.RecordFacts.{text-more, field-get, field-there, field-none}
+use Rattle.imp_csv.specs.Tables.{Row}
+use Rattle.imp_csv.specs.Records.{records_at, ends_field, begins_with, begins_line, IsEnded, IsLineEnded}
 
-abbrev High : List ℕ → Type 0
-High [] = Unit {0}
-High (b ∷ bs) = (128 ≤ b) × High bs
+-- ---- the records of a text
 
-pick_high : (x y z : Bool) (a b c d : List ℕ) → x ≡ false → High b → High c → High d → High (cond x a (cond y b (cond z c d)))
-pick_high true y z a b c d e p q r = absurd (cc)
-pick_high false true z a b c d e p q r = p
-pick_high false false true a b c d e p q r = q
-pick_high false false false a b c d e p q r = r
-
-encode_high : (c : ℕ) → 128 ≤ c → High (encode c)
-unfolding encode
-encode_high c h =
-    pick_high (ltb c 128) (ltb c 2048) (ltb c 65536) _ _ _ _ (grind (arith, nat_tests)) (omega arith, (omega arith, tt)) (omega arith, (omega arith, (omega arith, tt))) (omega arith, (omega arith, (omega arith, (omega arith, tt))))
-
--- a byte past ASCII is none that the machine asks for
-not_asked : (b n : ℕ) → 128 ≤ b → n < 128 → (b == n) ≡ false
-not_asked b n h k = grind (arith, nat_tests)
-
-abbrev Copies : State → ℕ → Type 0
-Copies s b = (step default_config s b ≡ (st.InField, act.Copy)) ⊎ (step default_config s b ≡ (st.InQuoted, act.Copy))
-
-field_step : (b : ℕ) → 128 ≤ b → step default_config st.InField b ≡ (st.InField, act.Copy)
-field_step b h = rw (not_asked b 44 h (omega arith), not_asked b 13 h (omega arith), not_asked b 10 h (omega arith)) refl
-
-quoted_step : (b : ℕ) → 128 ≤ b → step default_config st.InQuoted b ≡ (st.InQuoted, act.Copy)
-quoted_step b h = rw (not_asked b 34 h (omega arith)) refl
-
-comment_step : (b : ℕ) → 128 ≤ b → step default_config st.InComment b ≡ (st.InComment, act.Skip)
-comment_step b h = rw (not_asked b 10 h (omega arith)) refl
-
-first_step : (s : State) (b : ℕ) → 128 ≤ b → Copies s b ⊎ (s ≡ st.InComment)
-first_step st.StartRecord b h = inl (inl (rw (not_asked b 13 h (omega arith), not_asked b 10 h (omega arith), not_asked b 34 h (omega arith), not_asked b 44 h (omega arith)) refl))
-first_step st.StartField b h = inl (inl (rw (not_asked b 34 h (omega arith), not_asked b 44 h (omega arith), not_asked b 13 h (omega arith), not_asked b 10 h (omega arith)) refl))
-first_step st.InField b h = inl (inl (field_step b h))
-first_step st.InQuoted b h = inl (inr (quoted_step b h))
-first_step st.InEscape b h = inl (inr refl)
-first_step st.AfterQuote b h = inl (inl (rw (not_asked b 34 h (omega arith), not_asked b 44 h (omega arith), not_asked b 13 h (omega arith), not_asked b 10 h (omega arith)) refl))
-first_step st.InComment b h = inr refl
-first_step st.AfterCr b h = inl (inl (rw (not_asked b 10 h (omega arith), not_asked b 13 h (omega arith), not_asked b 34 h (omega arith), not_asked b 44 h (omega arith)) refl))
-
-abbrev next_of : State → List (List ℕ) → List ℕ → List ℕ → Option Read
+abbrev next_of : State → Row → List ℕ → List ℕ → Option Read
 next_of = next_record default_config
 
--- one byte
-at_end : (s : State) (f : List (List ℕ)) (p : List ℕ) (c : ℕ) (rest : List ℕ) → is_end (step default_config s c).1 ≡ true → next_of s f p (c ∷ rest) ≡ Some (fields_after (step default_config s c).1 f p, (step default_config s c).0, rest)
-unfolding next_record
-at_end s f p c rest e = rw e refl
-
-past_one : (s : State) (f : List (List ℕ)) (p : List ℕ) (c : ℕ) (rest : List ℕ) → is_end (step default_config s c).1 ≡ false → next_of s f p (c ∷ rest) ≡ next_of (step default_config s c).0 (fields_after (step default_config s c).1 f p) (field_after (step default_config s c).1 c p) rest
-unfolding next_record
-past_one s f p c rest e = rw e refl
-
-past_copy : (s t : State) (f : List (List ℕ)) (p : List ℕ) (c : ℕ) (rest : List ℕ) → step default_config s c ≡ (t, act.Copy) → next_of s f p (c ∷ rest) ≡ next_of t f (p ++ c ∷ []) rest
-unfolding next_record
-past_copy s t f p c rest e = rw e refl
-
-past_skip : (s t : State) (f : List (List ℕ)) (p : List ℕ) (c : ℕ) (rest : List ℕ) → step default_config s c ≡ (t, act.Skip) → next_of s f p (c ∷ rest) ≡ next_of t f p rest
-unfolding next_record
-past_skip s t f p c rest e = rw e refl
-
-runs_field : (bs : List ℕ) → High bs → Runs default_config st.InField bs
-unfolding Runs
-runs_field [] h = tt
-runs_field (b ∷ bs) h = (field_step b h.0, runs_field bs h.1)
-
-runs_quoted : (bs : List ℕ) → High bs → Runs default_config st.InQuoted bs
-unfolding Runs
-runs_quoted [] h = tt
-runs_quoted (b ∷ bs) h = (quoted_step b h.0, runs_quoted bs h.1)
-
-past_comment : (bs tail : List ℕ) (f : List (List ℕ)) (p : List ℕ) → High bs → next_of st.InComment f p (bs ++ tail) ≡ next_of st.InComment f p tail
-past_comment [] tail f p h = refl
-past_comment (b ∷ bs) tail f p h = past_skip st.InComment st.InComment f p b (bs ++ tail) (comment_step b h.0) ∙ past_comment bs tail f p h.1
-
--- a whole character past ASCII joins the field, or is part of a comment
-past_high : (s : State) (bs tail : List ℕ) (f : List (List ℕ)) (p : List ℕ) → High bs → (t : State) × (q : List ℕ) × ((q ≡ p ++ bs) ⊎ (q ≡ p)) × (next_of s f p (bs ++ tail) ≡ next_of t f q tail)
-past_high s [] tail f p h = (s, p, inr refl, refl)
-past_high s (b ∷ bs) tail f p h =
-    elim (first_step s b h.0) [
-      | inl (inl e) ↦ (st.InField, p ++ b ∷ bs, inl refl, past_copy s st.InField f p b (bs ++ tail) e ∙ run-copies default_config st.InField f (p ++ b ∷ []) bs tail (runs_field bs h.1) ∙ ap (λ q. next_of st.InField f q tail) (append_assoc p (b ∷ []) bs))
-      | inl (inr e) ↦ (st.InQuoted, p ++ b ∷ bs, inl refl, past_copy s st.InQuoted f p b (bs ++ tail) e ∙ run-copies default_config st.InQuoted f (p ++ b ∷ []) bs tail (runs_quoted bs h.1) ∙ ap (λ q. next_of st.InQuoted f q tail) (append_assoc p (b ∷ []) bs))
-      | inr e ↦ (st.InComment, p, inr refl, ap (λ t. next_of t f p (b ∷ bs ++ tail)) e ∙ past_comment (b ∷ bs) tail f p h)
-    ]
-
-fields_text : (a : Action) (f : List (List ℕ)) (p : List ℕ) → AllText f → IsUtf8 p → AllText (fields_after a f p)
-fields_text act.EndField f p h k = text-more f p h k
-fields_text act.Skip f p h k = h
-fields_text act.Copy f p h k = h
-fields_text act.EndRecord f p h k = text-more f p h k
-
-IsUtf8-encode_ascii : (c : ℕ) → c < 128 → IsUtf8 (c ∷ [])
-IsUtf8-encode_ascii c h = (c ∷ [], (low c (lt c h), append-nil (encode c) ∙ encode_ascii c h))
-  where
-    lt : (c : ℕ) → c < 128 → ltb c 55296 ≡ true
-    lt c h = grind (arith, nat_tests)
-
-    low : (c : ℕ) → ltb c 55296 ≡ true → scalars (c ∷ []) ≡ true
-    low c e = rw e refl
-
-one_byte : (c : ℕ) → c < 128 → IsUtf8 (c ∷ [])
-one_byte c h = IsUtf8-encode_ascii c h
-
-field_text : (a : Action) (c : ℕ) (p : List ℕ) → c < 128 → IsUtf8 p → IsUtf8 (field_after a c p)
-field_text act.Copy c p h k = IsUtf8-append p (c ∷ []) k (one_byte c h)
-field_text act.EndField c p h k = IsUtf8-nil
-field_text act.Skip c p h k = k
-field_text act.EndRecord c p h k = IsUtf8-nil
-
-stops : (s : State) (f : List (List ℕ)) (p : List ℕ) → ends_at_end s ≡ true → next_of s f p [] ≡ Some (f ++ p ∷ [], st.StartRecord, [])
-unfolding next_record
-stops s f p e = rw e refl
-
-ends : (s : State) (f : List (List ℕ)) (p : List ℕ) → ends_at_end s ≡ false → next_of s f p [] ≡ None
-unfolding next_record
-ends s f p e = rw e refl
-
-same_some : (x y : Read) → Some x ≡ Some y → x ≡ y
-same_some x y e = ap (λ o. unwrap_or o x) e
-
-none_some : (x : Read) → None ≡ Some x → ⊥
-none_some x e = cc
-
-abbrev IsTextRead : Read → Type 0
-IsTextRead r = AllText r.0 × IsUtf8 r.2
-
-record_of : (cs : List ℕ) → scalars cs ≡ true → (s : State) (f : List (List ℕ)) (p : List ℕ) → AllText f → IsUtf8 p → (r : Read) → next_of s f p (encodes cs) ≡ Some r → IsTextRead r
-record_of [] ok s f p h k r e =
-    elim (cases_Bool (ends_at_end s)) [
-      | inl t ↦ subst IsTextRead (same_some _ r (sym (stops s f p t) ∙ e)) (text-more f p h k, IsUtf8-nil)
-      | inr t ↦ absurd (none_some r (sym (ends s f p t) ∙ e))
-    ]
-record_of (c ∷ cs) ok s f p h k r e =
-    let parts = and_parts (scalar c) (scalars cs) ok in
-    elim (cases_lt c 128) [
-      | inl low ↦
-          let one : next_of s f p (c ∷ encodes cs) ≡ Some r = ap (λ l. next_of s f p (l ++ encodes cs)) (sym (encode_ascii c low)) ∙ e in
-          elim (cases_Bool (is_end (step default_config s c).1)) [
-            | inl t ↦ subst IsTextRead (same_some _ r (sym (at_end s f p c (encodes cs) t) ∙ one)) (fields_text (step default_config s c).1 f p h k, (cs, (parts.1, refl)))
-            | inr t ↦ record_of cs parts.1 (step default_config s c).0 (fields_after (step default_config s c).1 f p) (field_after (step default_config s c).1 c p) (fields_text (step default_config s c).1 f p h k) (field_text (step default_config s c).1 c p low k) r (sym (past_one s f p c (encodes cs) t) ∙ one)
-          ]
-      | inr wide ↦
-          let past = past_high s (encode c) (encodes cs) f p (encode_high c wide) in
-          let text : IsUtf8 past.1 = ⊎_elim (λ (q : past.1 ≡ p ++ encode c). subst IsUtf8 (sym q) (IsUtf8-append p (encode c) k (c ∷ [], (one_scalar c parts.0, append-nil (encode c))))) (λ (q : past.1 ≡ p). subst IsUtf8 (sym q) k) past.2 in
-          record_of cs parts.1 past.0 f past.1 h text r (sym past.3 ∙ e)
-    ]
-  where
-    one_scalar : (c : ℕ) → scalar c ≡ true → scalars (c ∷ []) ≡ true
-    one_scalar c e = rw e refl
-
-no_fields : AllText []
-unfolding AllText
-no_fields = tt
-
--- each record that a text reaches is text
-pub records_text : (rows : List (List (List ℕ))) (s t : State) (xs ys : List ℕ) → IsUtf8 xs → Reached default_config s xs rows t ys → (k : ℕ) (d : List (List ℕ)) → k < length rows → AllText (get_or rows k d)
-unfolding Reached
-records_text [] s t xs ys text h k d lt = absurd (omega arith)
-records_text (r ∷ rows) s t xs ys text h zero d lt =
-    let read = record_of text.0 text.1.0 s [] [] no_fields IsUtf8-nil h.0 (ap (next_of s [] []) text.1.1 ∙ h.1) in subst AllText (sym h.2) read.0
-records_text (r ∷ rows) s t xs ys text h (suc k) d lt =
-    let read = record_of text.0 text.1.0 s [] [] no_fields IsUtf8-nil h.0 (ap (next_of s [] []) text.1.1 ∙ h.1) in
-    records_text rows h.0.1 t h.0.2 ys read.1 h.3 k d (omega arith)
-
--- and the records are a function of the text
-pub reached_once : (rows more : List (List (List ℕ))) (s t u : State) (xs ys zs : List ℕ) → Reached default_config s xs rows t ys → next_of t [] [] ys ≡ None → Reached default_config s xs more u zs → next_of u [] [] zs ≡ None → rows ≡ more
-unfolding Reached
-reached_once [] [] s t u xs ys zs h n k m = refl
-reached_once [] (r ∷ more) s t u xs ys zs h n k m = absurd (none_some k.0 (sym n ∙ sym (λ i. next_of (h.0 i) [] [] (h.1 i)) ∙ k.1))
-reached_once (r ∷ rows) [] s t u xs ys zs h n k m = absurd (none_some h.0 (sym m ∙ sym (λ i. next_of (k.0 i) [] [] (k.1 i)) ∙ h.1))
-reached_once (r ∷ rows) (q ∷ more) s t u xs ys zs h n k m =
-    let same : h.0 ≡ k.0 = same_some h.0 k.0 (sym h.1 ∙ k.1) in
-    ap₂ ◌∷◌ (h.2 ∙ ap (λ x. x.0) same ∙ sym k.2) (reached_once rows more h.0.1 t u h.0.2 ys zs h.3 n (subst (λ (x : Read). Reached default_config x.1 x.2 more u zs) (sym same) k.3) m)
-
--- after the end of the text there is no record
-end_is : (s : State) (f : List (List ℕ)) (p : List ℕ) (r : Read) → next_of s f p [] ≡ Some r → (f ++ p ∷ [], st.StartRecord, []) ≡ r
-end_is s f p r e =
-    elim (cases_Bool (ends_at_end s)) [
-      | inl t ↦ same_some _ r (sym (stops s f p t) ∙ e)
-      | inr t ↦ absurd (none_some r (sym (ends s f p t) ∙ e))
-    ]
-
--- a record takes some of the text
-left_of : (rest : List ℕ) (s : State) (f : List (List ℕ)) (p : List ℕ) (c : ℕ) (r : Read) → next_of s f p (c ∷ rest) ≡ Some r → length r.2 ≤ length rest
-left_of [] s f p c r e =
-    elim (cases_Bool (is_end (step default_config s c).1)) [
-      | inl t ↦ omega (arith, ap (λ (x : Read). length x.2) (same_some _ r (sym (at_end s f p c [] t) ∙ e)))
-      | inr t ↦ omega (arith, ap (λ (x : Read). length x.2) (end_is _ _ _ r (sym (past_one s f p c [] t) ∙ e)))
-    ]
-left_of (d ∷ more) s f p c r e =
-    elim (cases_Bool (is_end (step default_config s c).1)) [
-      | inl t ↦ omega (arith, ap (λ (x : Read). length x.2) (same_some _ r (sym (at_end s f p c (d ∷ more) t) ∙ e)))
-      | inr t ↦ omega (arith, left_of more _ _ _ d r (sym (past_one s f p c (d ∷ more) t) ∙ e))
-    ]
-
-none_left : (rows : List (List (List ℕ))) (t : State) (ys : List ℕ) → Reached default_config st.StartRecord [] rows t ys → rows ≡ []
-unfolding Reached
-none_left [] t ys h = refl
-none_left (r ∷ rows) t ys h = absurd (none_some h.0 (sym (ends st.StartRecord [] [] refl) ∙ h.1))
+abbrev more_of : ℕ → Option Read → List Row
+more_of n = records_next (records_from default_config n)
 
 records_none : (n : ℕ) → records_from default_config n st.StartRecord [] ≡ []
-unfolding records_from
+unfolding records_from next_record
 records_none zero = refl
-records_none (suc n) = rw (ends st.StartRecord [] [] refl) refl
+records_none (suc n) = refl
 
-records_are : (n : ℕ) (rows : List (List (List ℕ))) (s t : State) (xs ys : List ℕ) → length xs < n → Reached default_config s xs rows t ys → next_of t [] [] ys ≡ None → records_from default_config n s xs ≡ rows
-unfolding Reached records_from
-records_are zero rows s t xs ys lt h e = absurd (omega arith)
-records_are (suc n) [] s t xs ys lt h e =
-    let same : next_of s [] [] xs ≡ next_of t [] [] ys = λ i. next_of (h.0 i) [] [] (h.1 i) in
-    let none : next_of s [] [] xs ≡ None = same ∙ e in
-    rw none refl
-records_are (suc n) (r ∷ rows) s t [] ys lt h e =
-    let last = end_is s [] [] h.0 h.1 in
-    let none = none_left rows t ys (subst (λ (x : Read). Reached default_config x.1 x.2 rows t ys) (sym last) h.3) in
-    let rest = subst (λ (x : Read). records_from default_config n x.1 x.2 ≡ []) last (records_none n) in
-    rw h.1 (ap₂ ◌∷◌ (sym h.2) (rest ∙ sym none))
-records_are (suc n) (r ∷ rows) s t (c ∷ xs) ys lt h e =
-    let shorter = left_of xs s [] [] c h.0 h.1 in
-    rw h.1 (ap₂ ◌∷◌ (sym h.2) (records_are n rows h.0.1 t h.0.2 ys (omega arith) h.3 e))
+at_end : (n : ℕ) (b : Bool) (row : Row) → more_of n (cond b (Some (row, st.StartRecord, [])) None) ≡ cond b (row ∷ []) []
+at_end n true row = ap (λ rows. row ∷ rows) (records_none n)
+at_end n false row = refl
 
--- the records that a text reaches are its records
-pub all_records : (xs : List ℕ) (rows : List (List (List ℕ))) → AreRecords default_config st.StartRecord xs rows → rows ≡ records default_config xs
-all_records xs rows h = sym (records_are (length xs + 1) rows st.StartRecord h.0 xs h.1 (omega arith) h.2 h.3)
+at_byte : (n : ℕ) (b : Bool) (s : State) (row : Row) (field rest : List ℕ) → more_of n (next_of s [] [] rest) ≡ records_at s [] [] rest → more_of (suc n) (next_of s row field rest) ≡ records_at s row field rest
+    → more_of (suc n) (cond b (Some (row, s, rest)) (next_of s row field rest)) ≡ cond b (row ∷ records_at s [] [] rest) (records_at s row field rest)
+unfolding records_from
+at_byte n true s row field rest ended more = ap (λ rows. row ∷ rows) ended
+at_byte n false s row field rest ended more = more
 
--- a text without its byte order mark is text
-without_mark : (a b c : ℕ) (rest : List ℕ) (t : Bool) → is_bom a b c ≡ t → IsUtf8 (a ∷ b ∷ c ∷ rest) → IsUtf8 (cond t rest (a ∷ b ∷ c ∷ rest))
-unfolding encode
-without_mark a b c rest true is text =
-    let first : a ≡ 0xEF = grind (arith, nat_tests) in
-    let second : b ≡ 0xBB = grind (arith, nat_tests) in
-    let third : c ≡ 0xBF = grind (arith, nat_tests) in
-    let mark : a ∷ b ∷ c ∷ rest ≡ encode 65279 ++ rest = rw (first, second, third) refl in
-    IsUtf8-past_char (a ∷ b ∷ c ∷ rest) rest 65279 text mark
-without_mark a b c rest false is text = text
+given : (n : ℕ) (xs : List ℕ) (s : State) (row : Row) (field : List ℕ) → length xs ≤ n → more_of n (next_of s row field xs) ≡ records_at s row field xs
+unfolding next_record records_at
+given n [] s row field le = at_end n _ _
+given zero (byte ∷ rest) s row field le = absurd (omega arith)
+given (suc n) (byte ∷ rest) s row field le = at_byte n _ _ _ _ rest (given n rest _ [] [] (omega arith)) (given (suc n) rest _ _ _ (omega arith))
 
-pub text_stripped : (xs : List ℕ) → IsUtf8 xs → IsUtf8 (strip_bom xs)
-unfolding strip_bom
-text_stripped [] text = text
-text_stripped (a ∷ []) text = text
-text_stripped (a ∷ b ∷ []) text = text
-text_stripped (a ∷ b ∷ c ∷ rest) text = without_mark a b c rest (is_bom a b c) refl text
+pub all_records : (xs : List ℕ) → records_at st.StartRecord [] [] xs ≡ records default_config xs
+unfolding records_from
+all_records xs = sym (rw add-one (given (length xs) xs st.StartRecord [] [] (omega arith)))
 
--- the fields of the record that was reached last are text
-pub last_text : (rows : List (List (List ℕ))) (row : List (List ℕ)) (s t : State) (xs ys : List ℕ) → IsUtf8 xs → Reached default_config s xs (rows ++ row ∷ []) t ys → AllText row
-last_text rows row s t xs ys text h =
-    let all = records_text (rows ++ row ∷ []) s t xs ys text h (length rows) row (omega (arith, length-append {A = List (List ℕ)})) in
-    rw get_or-append_seam at all
+-- ---- one byte
 
-none_field : {x : List ℕ} → None ≡ Some x → ⊥
-none_field e = cc
+past_copy : (s t : State) (row : Row) (field : List ℕ) (byte : ℕ) (rest : List ℕ) → step default_config s byte ≡ (t, act.Copy) → records_at s row field (byte ∷ rest) ≡ records_at t row (field ++ byte ∷ []) rest
+unfolding records_at
+past_copy s t row field byte rest e = rw e refl
 
--- one more field
-pub take_field : (fields : List (List ℕ)) (i : ℕ) (x : List ℕ) → field_at fields i ≡ Some x → take (i + 1) fields ≡ take i fields ++ x ∷ []
-take_field fields i x e =
-    let lt : i < length fields = elim (cases_lt i (length fields)) [ inl lt ↦ lt | inr ge ↦ absurd (none_field (sym (field-none fields i ge) ∙ e)) ] in
-    take_more fields i [] lt ∙ ap (λ y. take i fields ++ y ∷ []) (field-get fields i x e)
+past_skip : (s t : State) (row : Row) (field : List ℕ) (byte : ℕ) (rest : List ℕ) → step default_config s byte ≡ (t, act.Skip) → records_at s row field (byte ∷ rest) ≡ records_at t row field rest
+unfolding records_at
+past_skip s t row field byte rest e = rw e refl
 
--- all fields
-pub take_fields : (fields : List (List ℕ)) (i : ℕ) → field_at fields i ≡ None → take i fields ≡ fields
-take_fields fields i e = elim (cases_lt i (length fields)) [ inl lt ↦ absurd (field-there fields i lt e) | inr ge ↦ take_all i fields ge ]
+past_end : (s t : State) (row : Row) (field : List ℕ) (byte : ℕ) (rest : List ℕ) → step default_config s byte ≡ (t, act.EndRecord) → records_at s row field (byte ∷ rest) ≡ (row ++ field ∷ []) ∷ records_at t [] [] rest
+unfolding records_at
+past_end s t row field byte rest e = rw e refl
 
--- the next field, and then the others
-pub drop_field : (fields : List (List ℕ)) (i : ℕ) (x : List ℕ) → field_at fields i ≡ Some x → drop i fields ≡ x ∷ drop (i + 1) fields
-drop_field fields i x e =
-    let lt : i < length fields = elim (cases_lt i (length fields)) [ inl lt ↦ lt | inr ge ↦ absurd (none_field (sym (field-none fields i ge) ∙ e)) ] in
-    drop_more fields i [] lt ∙ ap (λ y. y ∷ drop (i + 1) fields) (field-get fields i x e)
+past_same : (s t : State) (row : Row) (field : List ℕ) (byte : ℕ) (rest : List ℕ) → step default_config s byte ≡ step default_config t byte → records_at s row field (byte ∷ rest) ≡ records_at t row field (byte ∷ rest)
+unfolding records_at
+past_same s t row field byte rest e = rw e refl
 
--- no more fields
-pub drop_fields : (fields : List (List ℕ)) (i : ℕ) → field_at fields i ≡ None → drop i fields ≡ []
-drop_fields fields i e = elim (cases_lt i (length fields)) [ inl lt ↦ absurd (field-there fields i lt e) | inr ge ↦ drop_all i fields ge ]
+-- ---- runs of bytes
+
+last_of : {A : Type 0} (a b : Bool) (x y z : A) → (a || b) ≡ false → cond a x (cond b y z) ≡ z
+last_of true b x y z e = absurd (cc)
+last_of false true x y z e = absurd (cc)
+last_of false false x y z e = refl
+
+pub run_plain : (xs : List ℕ) (row : Row) (field : List ℕ)
+    → records_at st.InField row field xs ≡ records_at st.InField row (field ++ take (position_or_len ends_field xs) xs) (drop (position_or_len ends_field xs) xs)
+run_plain [] row field = ap (λ f. records_at st.InField row f []) (sym (append-nil field))
+run_plain (byte ∷ rest) row field = by (ends_field byte) refl (run_plain rest row (field ++ byte ∷ []))
+  where
+    by : (b : Bool) → ends_field byte ≡ b
+        → records_at st.InField row (field ++ byte ∷ []) rest ≡ records_at st.InField row (field ++ byte ∷ [] ++ take (position_or_len ends_field rest) rest) (drop (position_or_len ends_field rest) rest)
+        → records_at st.InField row field (byte ∷ rest) ≡ records_at st.InField row (field ++ take (cond (not b) (1 + position_or_len ends_field rest) 0) (byte ∷ rest)) (drop (cond (not b) (1 + position_or_len ends_field rest) 0) (byte ∷ rest))
+    by true e more = ap (λ f. records_at st.InField row f (byte ∷ rest)) (sym (append-nil field))
+    by false e more =
+        let n = position_or_len ends_field rest in
+        let next : 1 + n ≡ suc n = omega arith in
+        past_copy st.InField st.InField row field byte rest (last_of (byte == 44) ((byte == 13) || (byte == 10)) _ _ _ e)
+        ∙ more ∙ rw next (ap (λ f. records_at st.InField row f (drop n rest)) (append_assoc field (byte ∷ []) (take n rest)))
+
+quote_step : (byte : ℕ) → (byte == 34) ≡ true → step default_config st.InQuoted byte ≡ (st.AfterQuote, act.Skip)
+quote_step byte e = rw e refl
+
+quoted_step : (byte : ℕ) → (byte == 34) ≡ false → step default_config st.InQuoted byte ≡ (st.InQuoted, act.Copy)
+quoted_step byte e = rw e refl
+
+abbrev pub quote_at : List ℕ → ℕ
+quote_at xs = position_or_len (λ byte. byte == 34) xs
+
+pub run_quoted : (xs : List ℕ) (row : Row) (field : List ℕ) → records_at st.InQuoted row field xs ≡ records_at st.AfterQuote row (field ++ take (quote_at xs) xs) (drop (quote_at xs + 1) xs)
+unfolding records_at
+run_quoted [] row field = ap (λ f. (row ++ f ∷ []) ∷ []) (sym (append-nil field))
+run_quoted (byte ∷ rest) row field = by (byte == 34) refl (run_quoted rest row (field ++ byte ∷ []))
+  where
+    by : (b : Bool) → (byte == 34) ≡ b
+        → records_at st.InQuoted row (field ++ byte ∷ []) rest ≡ records_at st.AfterQuote row (field ++ byte ∷ [] ++ take (quote_at rest) rest) (drop (quote_at rest + 1) rest)
+        → records_at st.InQuoted row field (byte ∷ rest) ≡ records_at st.AfterQuote row (field ++ take (cond (not b) (1 + quote_at rest) 0) (byte ∷ rest)) (drop (cond (not b) (1 + quote_at rest) 0 + 1) (byte ∷ rest))
+    by true e more = past_skip st.InQuoted st.AfterQuote row field byte rest (quote_step byte e) ∙ ap (λ f. records_at st.AfterQuote row f rest) (sym (append-nil field))
+    by false e more =
+        let n = quote_at rest in
+        let next : 1 + n ≡ suc n = omega arith in
+        let after : suc n + 1 ≡ suc (n + 1) = omega arith in
+        past_copy st.InQuoted st.InQuoted row field byte rest (quoted_step byte e)
+        ∙ more ∙ rw (next, after) (ap (λ f. records_at st.AfterQuote row f (drop (n + 1) rest)) (append_assoc field (byte ∷ []) (take n rest)))
+
+-- ---- the first byte that passes a test
+
+found_at : (m k n : ℕ) (b : Bool) → nat_lt m k ≡ b → cond b (Some m) None ≡ Some n → (n ≡ m) × (m < k)
+found_at m k n true lt e = (sym (ap (λ o. unwrap_or o n) e), grind (arith, nat_tests))
+found_at m k n false lt e = absurd (cc)
+
+none_at : (m k : ℕ) (b : Bool) → nat_lt m k ≡ b → cond b (Some m) None ≡ None → k ≤ m
+none_at m k true lt e = absurd (cc)
+none_at m k false lt e = grind (arith, nat_tests)
+
+-- the byte at the place passes
+passes_at : (p : ℕ → Bool) (xs : List ℕ) → position_or_len p xs < length xs → p (get_or xs (position_or_len p xs) 0) ≡ true
+passes_at p [] lt = absurd (omega arith)
+passes_at p (byte ∷ rest) lt = by (p byte) refl lt (passes_at p rest)
+  where
+    by : (b : Bool) → p byte ≡ b → cond (not b) (1 + position_or_len p rest) 0 < length (byte ∷ rest)
+        → (position_or_len p rest < length rest → p (get_or rest (position_or_len p rest) 0) ≡ true) → p (get_or (byte ∷ rest) (cond (not b) (1 + position_or_len p rest) 0) 0) ≡ true
+    by true e lt more = e
+    by false e lt more = let next : 1 + position_or_len p rest ≡ suc (position_or_len p rest) = omega arith in rw next (more (omega arith))
+
+low_end : (byte : ℕ) → ends_field byte ≡ true → byte < 128
+low_end byte e = grind (arith, nat_tests)
+
+low_quote : (byte : ℕ) → (byte == 34) ≡ true → byte < 128
+low_quote byte e = grind (arith, nat_tests)
+
+ended_at : (xs : List ℕ) (n : ℕ) → n < length xs → ends_field (get_or xs n 0) ≡ true → IsEnded (drop n xs)
+ended_at [] n lt e = absurd (omega arith)
+ended_at (byte ∷ rest) zero lt e = e
+ended_at (byte ∷ rest) (suc n) lt e = ended_at rest n (omega arith) e
+
+-- a field in no quotes may be cut at its end
+pub plain_found : (xs : List ℕ) (n : ℕ) → position ends_field xs ≡ Some n
+    → IsCharBoundary xs n × IsEnded (drop n xs) × ((row : Row) (field : List ℕ) → records_at st.InField row field xs ≡ records_at st.InField row (field ++ take n xs) (drop n xs))
+plain_found xs n is =
+    let place = found_at (position_or_len ends_field xs) (length xs) n _ refl is in
+    let within : n < length xs = omega (arith, place.0, place.1) in
+    let passes : ends_field (get_or xs n 0) ≡ true = rw place.0 (passes_at ends_field xs place.1) in (
+      IsCharBoundary-before_ascii xs n within (low_end _ passes),
+      ended_at xs n within passes,
+      λ row field. rw place.0 (run_plain xs row field),
+    )
+
+pub plain_none : (xs : List ℕ) (row : Row) (field : List ℕ) → position ends_field xs ≡ None → records_at st.InField row field xs ≡ records_at st.InField row (field ++ xs) []
+plain_none xs row field is =
+    let past = none_at (position_or_len ends_field xs) (length xs) _ refl is in
+    let all : take (position_or_len ends_field xs) xs ≡ xs = take_all _ xs past in
+    let none : drop (position_or_len ends_field xs) xs ≡ [] = drop_all _ xs past in
+    run_plain xs row field ∙ rw (all, none) refl
+
+-- what stands in quotes may be cut round the next quote
+pub quote_found : (xs : List ℕ) (n : ℕ) → IsUtf8 xs → position (λ byte. byte == 34) xs ≡ Some n
+    → IsCharBoundary xs n × IsCharBoundary xs (n + 1) × (n < length xs)
+    × ((row : Row) (field : List ℕ) → records_at st.InQuoted row field xs ≡ records_at st.AfterQuote row (field ++ take n xs) (drop (n + 1) xs))
+quote_found xs n utf8 is =
+    let place = found_at (quote_at xs) (length xs) n _ refl is in
+    let within : n < length xs = omega (arith, place.0, place.1) in
+    let passes : (get_or xs n 0 == 34) ≡ true = rw place.0 (passes_at (λ byte. byte == 34) xs place.1) in (
+      IsCharBoundary-before_ascii xs n within (low_quote _ passes),
+      IsCharBoundary-after_ascii xs n utf8 within (low_quote _ passes),
+      within,
+      λ row field. rw place.0 (run_quoted xs row field),
+    )
+
+pub quote_none : (xs : List ℕ) (row : Row) (field : List ℕ) → position (λ byte. byte == 34) xs ≡ None → records_at st.InQuoted row field xs ≡ records_at st.AfterQuote row (field ++ xs) []
+quote_none xs row field is =
+    let past = none_at (quote_at xs) (length xs) _ refl is in
+    let all : take (quote_at xs) xs ≡ xs = take_all _ xs past in
+    let none : drop (quote_at xs + 1) xs ≡ [] = drop_all _ xs (omega arith) in
+    run_quoted xs row field ∙ rw (all, none) refl
+
+-- ---- the beginning of a field and its end
+
+pub plain_start : (xs : List ℕ) (row : Row) → begins_with 34 xs ≡ false → records_at st.StartField row [] xs ≡ records_at st.InField row [] xs
+unfolding records_at
+plain_start [] row none = refl
+plain_start (byte ∷ rest) row none = past_same st.StartField st.InField row [] byte rest (rw none refl)
+
+pub quoted_start : (rest : List ℕ) (row : Row) → records_at st.StartField row [] (34 ∷ rest) ≡ records_at st.InQuoted row [] rest
+quoted_start rest row = past_skip st.StartField st.InQuoted row [] 34 rest refl
+
+pub after_quotes : (xs : List ℕ) (row : Row) (field : List ℕ) → begins_with 34 xs ≡ false → records_at st.AfterQuote row field xs ≡ records_at st.InField row field xs
+unfolding records_at
+after_quotes [] row field none = refl
+after_quotes (byte ∷ rest) row field none = past_same st.AfterQuote st.InField row field byte rest (rw none refl)
+
+pub doubled_quote : (rest : List ℕ) (row : Row) (field : List ℕ) → records_at st.AfterQuote row field (34 ∷ rest) ≡ records_at st.InQuoted row (field ++ 34 ∷ []) rest
+doubled_quote rest row field = past_copy st.AfterQuote st.InQuoted row field 34 rest refl
+
+pub next_field : (rest : List ℕ) (row : Row) (field : List ℕ) → records_at st.InField row field (44 ∷ rest) ≡ records_at st.StartField (row ++ field ∷ []) [] rest
+unfolding records_at
+next_field rest row field = refl
+
+-- ---- the ends of lines
+
+first_of : {A : Type 0} (a b : Bool) (x y : A) → cond b x (cond (a || b) x y) ≡ cond (a || b) x y
+first_of true true x y = refl
+first_of true false x y = refl
+first_of false true x y = refl
+first_of false false x y = refl
+
+-- a `\n` after a `\r` is one more end of a line with no record before it
+after_return : (xs : List ℕ) → records_at st.AfterCr [] [] xs ≡ records_at st.StartRecord [] [] xs
+unfolding records_at
+after_return [] = refl
+after_return (byte ∷ rest) = past_same st.AfterCr st.StartRecord [] [] byte rest (first_of (byte == 13) (byte == 10) (st.StartRecord, act.Skip) (start_field default_config byte))
+
+pub skipped_return : (rest : List ℕ) → records_at st.StartRecord [] [] (13 ∷ rest) ≡ records_at st.StartRecord [] [] rest
+skipped_return rest = past_skip st.StartRecord st.StartRecord [] [] 13 rest refl
+
+pub skipped_feed : (rest : List ℕ) → records_at st.StartRecord [] [] (10 ∷ rest) ≡ records_at st.StartRecord [] [] rest
+skipped_feed rest = past_skip st.StartRecord st.StartRecord [] [] 10 rest refl
+
+pub record_start : (byte : ℕ) (rest : List ℕ) → begins_line (byte ∷ rest) ≡ false → records_at st.StartRecord [] [] (byte ∷ rest) ≡ records_at st.StartField [] [] (byte ∷ rest)
+record_start byte rest none = past_same st.StartRecord st.StartField [] [] byte rest (rw none refl)
+
+no_comma : (byte : ℕ) → ((byte == 13) || (byte == 10)) ≡ true → (byte == 44) ≡ false
+no_comma byte e = grind (arith, nat_tests)
+
+line_step : (byte : ℕ) → ((byte == 13) || (byte == 10)) ≡ true → step default_config st.InField byte ≡ (cond (byte == 13) st.AfterCr st.StartRecord, act.EndRecord)
+line_step byte e = rw (no_comma byte e, e) refl
+
+skip_step : (byte : ℕ) → ((byte == 13) || (byte == 10)) ≡ true → step default_config st.StartRecord byte ≡ (st.StartRecord, act.Skip)
+skip_step byte e = rw e refl
+
+either_start : (b : Bool) (rest : List ℕ) → records_at (cond b st.AfterCr st.StartRecord) [] [] rest ≡ records_at st.StartRecord [] [] rest
+either_start true rest = after_return rest
+either_start false rest = refl
+
+pub record_end : (xs : List ℕ) (row : Row) (field : List ℕ) → IsLineEnded xs → records_at st.InField row field xs ≡ (row ++ field ∷ []) ∷ records_at st.StartRecord [] [] xs
+unfolding records_at
+record_end [] row field ended = refl
+record_end (byte ∷ rest) row field ended =
+    past_end st.InField (cond (byte == 13) st.AfterCr st.StartRecord) row field byte rest (line_step byte ended)
+    ∙ ap (λ rows. (row ++ field ∷ []) ∷ rows) (either_start (byte == 13) rest ∙ sym (past_skip st.StartRecord st.StartRecord [] [] byte rest (skip_step byte ended)))
+
+other_end : (a b : Bool) → (a || b) ≡ true → a ≡ false → b ≡ true
+other_end true b e f = absurd (cc)
+other_end false b e f = e
+
+pub line_ended : (xs : List ℕ) → IsEnded xs → begins_with 44 xs ≡ false → IsLineEnded xs
+line_ended [] ended none = tt
+line_ended (byte ∷ rest) ended none = other_end (byte == 44) ((byte == 13) || (byte == 10)) ended none

@@ -1,5 +1,5 @@
 // The attributes of a CSV text.
-ghost use Rattle.std.specs.Prelude.{◌≡◌, ◌∷◌, [], OnOk, IsTrue, pos};
+ghost use Rattle.std.specs.Prelude.{◌≡◌, ◌<◌, ◌^◌, ◌∷◌, [], OnOk, IsTrue, pos};
 ghost use Rattle.md_value.specs.Name.{is_name};
 ghost use Rattle.md_value.specs.declared.value.Value.TheVariants as value;
 ghost use Rattle.imp_rules.specs.Files.{with_values};
@@ -13,15 +13,13 @@ use imp_rules::{file_attributes, joined, put_content, put_value};
 use md_value::{Attrs, Fault, FillFault, Memory, Value};
 use std::alloc::Global;
 
-// Sets a number of columns or records, of which no memory holds 2 ^ 63.
+// Sets a number of columns or records.
 fn put_count(alloc: Global, attrs: &mut Attrs, name: &str, count: usize) -> Result<(), Memory>
-    requires { IsTrue (is_name name.now) }
+    requires name { IsTrue (is_name name.now) }
+    requires small { count < 2 ^ 63 }
     ensures { OnOk result (attrs.new ≡ with_values attrs.old name.now (value.Number (pos count) ∷ [])) }
 {
-    match i64::try_from(count) {
-        Ok(number) => put_value(alloc, attrs, name, Value::Number(number)),
-        Err(_) => Err(Memory),
-    }
+    put_value(alloc, attrs, name, Value::Number(count as i64))
 }
 
 // The numbers of columns and rows, and the text content.

@@ -1,25 +1,47 @@
 // Fields in a row.
-ghost use Rattle.std.specs.Prelude.{◌≡◌, [], ◌∷◌, ◌++◌, OnOk, length, option_map};
-ghost use Rattle.csv.specs.Records.{field_at, fields_of};
+ghost use Rattle.std.specs.Prelude.{◌≡◌, ◌<◌, ◌^◌, [], ◌∷◌, ◌++◌, OnOk, Some, get_or, length, option_map};
+ghost use Rattle.csv.specs.Records.{field_at, prev};
 
-use csv::StringRecord;
 use md_value::Memory;
 use std::alloc::Global;
 use std::marker::Model;
 
-/// Fields one after another, in one piece of memory. Contracts see them as the list of their bytes.
+/// Fields one after another, in one text. Contracts see them as the list of their bytes.
 #[derive(Drop)]
 pub(crate) struct Fields {
-    texts: StringRecord,
+    text: String,
+    // Where in the text each field ends.
+    ends: Vec<usize>,
 }
 
 impl Model for Fields {
-    ghost use Rattle.std.specs.Prelude.{List, ℕ};
-    ghost use Rattle.csv.specs.Records.{fields_of};
+    ghost use Rattle.std.specs.Prelude.{List, ℕ, string_bytes};
+    ghost use Rattle.csv.specs.Records.{cut_from};
+    ghost use Rattle.imp_csv.specs.Records.{AreEnds};
 
     ghost Value = { List (List ℕ) };
 
-    ghost view = { λ f. fields_of f.texts };
+    ghost view = { λ f. cut_from 0 f.ends.items (string_bytes f.text) };
+
+    ghost invariant = { λ f. AreEnds 0 f.ends.items (string_bytes f.text) };
+}
+
+// Where the field at a place begins: where the one before it ends.
+fn start_of(ends: &[usize], place: usize) -> usize
+    requires { place < length ends.now }
+    ensures { result ≡ prev 0 ends.now place }
+{
+    if place == 0 { 0 } else { ends[place - 1] }
+}
+
+// Where the field at a place begins and ends.
+fn bounds(ends: &[usize], place: usize) -> (usize, usize)
+    requires { place < length ends.now }
+    ensures start { result.0 ≡ prev 0 ends.now place }
+    ensures end { result.1 ≡ get_or ends.now place 0 }
+{
+    let start = start_of(ends, place);
+    (start, ends[place])
 }
 
 impl Fields {
@@ -27,32 +49,50 @@ impl Fields {
         ensures { result ≡ [] }
     {
         Fields {
-            texts: StringRecord::new(alloc),
+            text: String::new(alloc),
+            ends: Vec::new(alloc),
         }
     }
 
-    pub(crate) fn push(&mut self, text: &str) -> Result<(), Memory>
-        ensures { OnOk result (self.new ≡ self.old ++ text.now ∷ []) }
+    pub(crate) fn push(&mut self, field: &str) -> Result<(), Memory>
+        ensures { OnOk result (self.new ≡ self.old ++ field.now ∷ []) }
     {
-        self.texts.push_field(text)
+        self.ends.reserve(1)?;
+        self.text.push_str(field)?;
+        self.ends.push_reserved(self.text.len());
+        Ok(())
     }
 
     pub(crate) fn len(&self) -> usize
         ensures { result ≡ length self.now }
     {
-        self.texts.len()
+        self.ends.len()
+    }
+
+    /// There are fewer fields than 2 ^ 63, since the ends of more would find room in no memory.
+    pub(crate) fn count_is_small(&self)
+        ensures { length self.now < 2 ^ 63 }
+    {
+        let _ends = &self.ends;
     }
 
     /// The field at a place, counted from 0.
+    pub(crate) fn at(&self, place: usize) -> &str
+        requires { place < length self.now }
+        ensures { field_at self.now place ≡ Some result.now }
+    {
+        let (start, end) = bounds(self.ends.as_slice(), place);
+        &self.text.as_str()[start..end]
+    }
+
+    /// The field at a place, counted from 0, where there is one.
     pub(crate) fn get(&self, place: usize) -> Option<&str>
         ensures { option_map (λ field. field.now) result ≡ field_at self.now place }
     {
-        self.texts.get(place)
-    }
-
-    pub(crate) fn texts(&self) -> &StringRecord
-        ensures { fields_of result.now ≡ self.now }
-    {
-        &self.texts
+        if place < self.len() {
+            Some(self.at(place))
+        } else {
+            None
+        }
     }
 }

@@ -7,6 +7,7 @@
 #![tactic(auto)]
 
 mod attributes;
+mod field;
 mod fields;
 mod reading;
 mod records;

@@ -1,71 +1,70 @@
 // The records of a text.
-ghost use Rattle.std.specs.Prelude.{◌≡◌, ◌++◌, IfOk, OnOk, true};
-ghost use Rattle.csv.specs.Reading.{error_kind, stops_reader, ReadRecord};
-ghost use Rattle.csv.specs.Records.{fields_of, AllText};
+ghost use Rattle.std.specs.Prelude.{◌≡◌, ◌<◌, [], false, IfOk, MatchOption, length};
+ghost use Rattle.csv.specs.Reading.{strip_bom};
+ghost use Rattle.csv.specs.declared.parser.State.TheVariants as st;
 ghost use Rattle.imp_csv.specs.Tables.{records_of};
-ghost use Rattle.imp_csv.specs.Records.{left_of, IsPlain};
+ghost use Rattle.imp_csv.specs.Records.{records_at, begins_line, AddsRecord, SkipsLines};
 
+use crate::field::{after_byte, push_field};
 use crate::fields::Fields;
 use crate::records::Records;
-use csv::{ByteRecord, Error, ErrorKind, Reader, ReaderBuilder};
 use md_value::Memory;
 use std::alloc::Global;
 
-// Adds the fields of a record.
-fn push_row(fields: &mut Fields, row: &ByteRecord) -> Result<(), Memory>
-    requires { AllText (fields_of row.now) }
-    ensures { OnOk result (fields.new ≡ fields.old ++ fields_of row.now) }
+// The text without a byte order mark before it.
+fn without_mark(text: &str) -> &str
+    ensures { result.now ≡ strip_bom text.now }
 {
-    for field in row {
-        match std::str::from_utf8(field) {
-            Ok(text) => fields.push(text)?,
-            Err(_) => unreachable!(),
-        }
-    }
-    Ok(())
-}
-
-// What an error comes to that stops a reader. Bytes in memory never fail to be read, but what reads the records says
-// nothing of when such an error comes: it is answered as want of memory.
-fn memory_of(error: Error) -> Memory
-    requires { stops_reader (error_kind error) ≡ true }
-{
-    match error.into_kind() {
-        ErrorKind::Io(_) | ErrorKind::OutOfMemory => Memory,
-        _ => unreachable!(),
+    match text.strip_prefix('\u{feff}') {
+        Some(rest) => rest,
+        None => text,
     }
 }
 
-// Reads the next record, and says whether there was one.
-fn read_row(reader: &mut Reader<&[u8]>, row: &mut ByteRecord) -> Result<bool, Memory>
-    requires { IsPlain reader.old }
-    ensures plain { OnOk result (IsPlain reader.new) }
-    ensures reads { IfOk result (λ found. ReadRecord left_of reader.old reader.new found (fields_of row.new)) }
+// What follows a `\r` or `\n` that a text begins with.
+fn after_line_end(text: &str) -> Option<&str>
+    ensures { MatchOption result (begins_line text.now ≡ false) (λ rest. (records_at st.StartRecord [] [] text.now ≡ records_at st.StartRecord [] [] rest.now) × (length rest.now < length text.now)) }
 {
-    match reader.read_byte_record(row) {
-        Ok(found) => Ok(found),
-        Err(error) => Err(memory_of(error)),
+    match after_byte(b'\r', text) {
+        Some(rest) => Some(rest),
+        None => after_byte(b'\n', text),
     }
+}
+
+// The text without the ends of lines before it, which end no record.
+fn without_line_ends(text: &str) -> &str
+    ensures { SkipsLines text.now result.now }
+{
+    let mut rest = text;
+    while let Some(next) = after_line_end(rest) {
+        rest = next;
+    }
+    rest
+}
+
+// Adds the fields of the record that a text begins with, and gives the text from its end on.
+fn push_record<'a>(fields: &mut Fields, made: &mut String, text: &'a str) -> Result<&'a str, Memory>
+    ensures { IfOk result (λ rest. AddsRecord fields.old text.now fields.new rest.now) }
+{
+    let mut rest = push_field(fields, made, text)?;
+    while let Some(next) = after_byte(b',', rest) {
+        rest = push_field(fields, made, next)?;
+    }
+    Ok(rest)
 }
 
 /// The records of a text, with no header, of any lengths and untrimmed. No text is refused.
 pub(crate) fn records(alloc: Global, text: &str) -> Result<Records, Memory>
     ensures { IfOk result (λ records. records ≡ records_of text.now) }
 {
-    let mut reader = ReaderBuilder::new()
-        .has_headers(false)
-        .flexible(true)
-        .from_reader(alloc, text.as_bytes());
-    let mut row = ByteRecord::new(alloc);
     let mut fields = Fields::new(alloc);
     let mut lengths = Vec::new(alloc);
-    'rows: for _ in 0..u64::MAX {
-        if read_row(&mut reader, &mut row)? {
-            push_row(&mut fields, &row)?;
-            lengths.push(row.len())?;
-        } else {
-            return Ok(Records::of(fields, lengths));
-        }
+    let mut made = String::new(alloc);
+    let mut rest = without_line_ends(without_mark(text));
+    while !rest.is_empty() {
+        let before = fields.len();
+        rest = without_line_ends(push_record(&mut fields, &mut made, rest)?);
+        lengths.push(fields.len() - before)?;
     }
-    Err(Memory)
+    Ok(Records::of(fields, lengths))
 }

@@ -1,14 +1,12 @@
 // Records in one piece of memory.
-ghost use Rattle.std.specs.Prelude.{◌≡◌, ◌++◌, ◌+◌, ◌==◌, not, OnOk, IfOk, length, sum, option_map, string_bytes, take, drop};
+ghost use Rattle.std.specs.Prelude.{◌≡◌, ◌<◌, ◌^◌, ◌++◌, ◌+◌, ◌==◌, not, OnOk, IfOk, length, sum, option_map, string_bytes, take, drop};
 ghost use Rattle.std.specs.List.{flat_map, position};
 ghost use Rattle.imp_rules.specs.Content.{spaced};
-ghost use Rattle.csv.specs.Records.{fields_of};
 ghost use Rattle.imp_csv.specs.Tables.{header_of, later_of, uneven_of, fields_at, fields_of_name};
 ghost use Rattle.imp_csv.specs.Records.{cut};
 
 use crate::fields::Fields;
 use crate::row::{Row, has_column, push_fields};
-use csv::StringRecord;
 use imp_rules::push_spaced;
 use md_value::{Memory, Name};
 use std::alloc::Global;
@@ -97,11 +95,11 @@ fn number_of_other(columns: usize, lengths: &[usize]) -> Option<u64>
 }
 
 // Adds the fields to a text, each after a space.
-fn push_all(fields: &StringRecord, text: &mut String) -> Result<(), Memory>
-    ensures { OnOk result (string_bytes text.new ≡ string_bytes text.old ++ spaced (fields_of fields.now)) }
+fn push_all(fields: &Fields, text: &mut String) -> Result<(), Memory>
+    ensures { OnOk result (string_bytes text.new ≡ string_bytes text.old ++ spaced fields.now) }
 {
-    for field in fields {
-        push_spaced(text, field)?;
+    for place in 0..fields.len() {
+        push_spaced(text, fields.at(place))?;
     }
     Ok(())
 }
@@ -117,8 +115,10 @@ impl Records {
 
     /// The number of columns.
     pub(crate) fn columns(&self) -> usize
-        ensures { result ≡ length (header_of self.now) }
+        ensures value { result ≡ length (header_of self.now) }
+        ensures small { result < 2 ^ 63 }
     {
+        self.fields.count_is_small();
         match self.lengths.as_slice() {
             [columns, ..] => *columns,
             [] => 0,
@@ -127,7 +127,8 @@ impl Records {
 
     /// The number of records after the header.
     pub(crate) fn rows(&self) -> usize
-        ensures { result ≡ length (later_of self.now) }
+        ensures value { result ≡ length (later_of self.now) }
+        ensures small { result < 2 ^ 63 }
     {
         match self.lengths.as_slice() {
             [_, later @ ..] => later.len(),
@@ -157,7 +158,7 @@ impl Records {
         ensures { IfOk result (λ text. string_bytes text ≡ spaced (flat_map (λ row. row) self.now)) }
     {
         let mut text = String::new(alloc);
-        push_all(self.fields.texts(), &mut text)?;
+        push_all(&self.fields, &mut text)?;
         Ok(text)
     }
 }

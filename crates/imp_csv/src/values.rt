@@ -1,12 +1,10 @@
 // The values that fields give an attribute.
 ghost use Rattle.std.specs.Prelude.{◌≡◌, ◌==◌, ◌++◌, ◌∷◌, [], OnOk, slice_index, map};
-ghost use Rattle.csv.specs.Records.{fields_of};
 ghost use Rattle.imp_rules.specs.Faults.{Answers, all_given};
 ghost use Rattle.imp_csv.specs.Numbers.{whole_number};
 ghost use Rattle.imp_csv.specs.Tables.{value_of, values_of};
 
 use crate::fields::Fields;
-use csv::StringRecord;
 use imp_rules::{date_value, text_value};
 use md_value::{Copied, Fault, FillFault, Items, Kind, Memory, Name, Rule, Value};
 use std::alloc::Global;
@@ -59,13 +57,14 @@ fn all_values(
     name: &Name,
     kind: Kind,
     offset: i32,
-    fields: &StringRecord,
+    fields: &Fields,
 ) -> Result<Items<Value>, FillFault>
-    ensures { Answers result (all_given (map (value_of offset name.now kind) (fields_of fields.now))) }
+    ensures { Answers result (all_given (map (value_of offset name.now kind) fields.now)) }
 {
     let mut values = Vec::with_capacity(alloc, fields.len())?;
-    for field in fields {
-        push_value(&mut values, value_of(alloc, name, kind, offset, field)?)?;
+    for place in 0..fields.len() {
+        let value = value_of(alloc, name, kind, offset, fields.at(place))?;
+        push_value(&mut values, value)?;
     }
     Ok(Items::from_vec(values))
 }
@@ -83,5 +82,5 @@ pub(crate) fn values_of(
     if !rule.many && fields.len() > 1 {
         return Err(FillFault::Fault(Fault::NotSingle(name.copy(alloc)?)));
     }
-    all_values(alloc, name, rule.kind, offset, fields.texts())
+    all_values(alloc, name, rule.kind, offset, fields)
 }

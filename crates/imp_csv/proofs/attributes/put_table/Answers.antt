@@ -15,4 +15,4 @@ returns c =
     let fields = flat_map (λ (row : Row). row) c.args.records.now in
     let content : c.joined.result.now ≡ joined fields = rw (c.joined.ensures, c.deref.ensures, c.in_ok-fields.ensures) (joined_is fields) in
     on_ok_weaker c.put_content.result (table_put c.args.records.now c.args.attrs.now c.put_count.new.attrs c.put_count-2.new.attrs c.put_content.new.attrs c.columns.result c.rows.result c.joined.result.now
-    c.columns.ensures c.rows.ensures c.in_ok-put_count.ensures c.in_ok-put_count-2.ensures content) c.put_content.ensures.ok
+    c.columns.ensures.value c.rows.ensures.value c.in_ok-put_count.ensures c.in_ok-put_count-2.ensures content) c.put_content.ensures.ok

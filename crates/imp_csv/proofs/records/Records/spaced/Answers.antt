@@ -8,4 +8,4 @@ use Rattle.imp_csv.proofs.records.Records.spaced.Goals as goal
 pub returns : goal.returns
 returns c =
     let rows = cut_joined c.self.inside.lengths.items c.self.inside.fields c.self.invariant in
-    rw c.new-text.ensures.bytes at c.in_ok-push_all.ensures ∙ ap spaced (c.texts.ensures ∙ sym rows ∙ ap (flat_map (λ (row : Row). row)) c.self.view_is)
+    rw c.new-text.ensures.bytes at c.in_ok-push_all.ensures ∙ ap spaced (sym rows ∙ ap (flat_map (λ (row : Row). row)) c.self.view_is)

@@ -13,4 +13,4 @@ returns c =
     ap (position (λ n. not (n == k))) c.as_slice.ensures.value ∙ sym (uneven_place k c.self.inside.lengths.items c.self.inside.fields c.self.invariant)
     ∙ ap (position (λ (row : Row). not (length row == k))) c.self.view_is
     )
-    ∙ ap (λ n. option_map (λ place. place + 1) (position (λ (row : Row). not (length row == n)) c.args.self.now)) c.columns.ensures
+    ∙ ap (λ n. option_map (λ place. place + 1) (position (λ (row : Row). not (length row == n)) c.args.self.now)) c.columns.ensures.value
