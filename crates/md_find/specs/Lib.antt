@@ -1,3 +1,4 @@
+pub mod Readings
 pub mod Searches
 pub mod Folders
 pub mod Files

@@ -5,9 +5,9 @@ use Rattle.md_expr_tree.specs.declared.tree.Expr.{Expr}
 use Rattle.md_expr_tree.specs.declared.tree.Expr.TheVariants as expr
 use Rattle.md_expr_parse.specs.declared.read.ReadError.{ReadError}
 use Rattle.md_expr_plain.specs.Plain.{name_test, interpreted}
-use Rattle.md_expr.specs.Outcome.{outcome}
 use Rattle.md_words.specs.declared.command.Mode.{Mode}
 use Rattle.md_words.specs.declared.command.Mode.TheVariants as mode
+use Rattle.md_find.specs.Readings.{reading_of}
 
 -- `=`, `<` or `>`
 abbrev pub is_sign : ℕ → Bool
@@ -22,12 +22,12 @@ has_part part (byte ∷ text) = starts_with nat_eq (byte ∷ text) part || has_p
 unfoldable pub looks_like_expression : List ℕ → Bool
 looks_like_expression text = list_any is_sign text || has_part (codes "InRange(") text
 
--- The expression of a search text. By the law `literal_text_is_read` it is, by `Literal`, the answer that the grammar and the
--- limits allow, by the relation `Answers` of md_expr; so `outcome` decides that relation, and need not be read.
+-- The expression of a search text. By the law `literal_text_is_read` it is, by `Literal`, the one answer that the relation
+-- `Answers` of md_expr allows.
 abbrev pub searched : Mode → List ℕ → Result Expr ReadError
-searched mode.Literal text = outcome text
+searched mode.Literal text = (reading_of text).answer
 searched mode.Plain text = interpreted text
-searched mode.Guess text = if looks_like_expression text then outcome text else interpreted text
+searched mode.Guess text = if looks_like_expression text then (reading_of text).answer else interpreted text
 
 -- the test of a name, and the expression of the text
 abbrev pub with_name : List ℕ → Result Expr ReadError → Result Expr ReadError

@@ -38,6 +38,7 @@ fn looks_like_expression(text: &str) -> bool
 }
 
 // The expression of a search text.
+#[tactic(auto, unfolding(crate::specs::Readings::reading_of))]
 fn searched(alloc: Global, mode: Mode, text: &str) -> Result<Expr, ReadError>
     ensures answer { (result ≡ searched mode text.now) ⊎ (result ≡ Err Memory) }
     ensures well_made { IfOk result (λ e. is_well_made e ≡ true) }

@@ -19,6 +19,7 @@ use Rattle.md_script.specs.declared.script.What.{What}
 use Rattle.md_script.specs.declared.script.What.TheVariants as what
 use Rattle.md_script.specs.Lines.{first_word, after_word}
 use Rattle.md_words.specs.Numbers.{number_in}
+use Rattle.md_script.specs.Readings.{reading_of}
 use Rattle.md_script.specs.Words.{client_of, number_of, expression_of}
 use Rattle.md_script.specs.Options.{asked_of, choice_of, choice_by, number_choice}
 use Rattle.md_script.specs.Query.{query_of, query_by}
@@ -119,7 +120,7 @@ stated_query client asked update says some sized =
     stated_sized (query_text client) (what.Query client 1 asked.expr [] [] (batch_of update)) (says ∙ ap (λ r. says_query client update (result_ok r)) asked.read ∙ rw some refl) asked.timely sized
 
 pub stated_queries : (client : ℕ) → client < 8 → IsStated (query_text client)
-unfolding said is_utf8 chars encode says_nothing said_by first_word command_of client_of number_in client_line asked_by after_word number_of query_of asked_of choice_of choice_by number_choice expression_of expression digits
+unfolding said is_utf8 chars encode says_nothing said_by first_word command_of client_of number_in client_line asked_by after_word number_of query_of asked_of choice_of choice_by number_choice expression_of reading_of expression digits
 stated_queries =
     below_8 (λ client. IsStated (query_text client))
     (stated_query 0 asked_0 None refl refl refl)

@@ -1,11 +1,12 @@
 -- The expression of a query's line is what its text reads as.
-use Rattle.std.proofs.Common.{◌≡◌, ◌↔◌, ℕ, Bool, true, false, if◌then◌else◌, List, Option, Some, None, Result, Ok, Err, refl, ap, subst}
+use Rattle.std.proofs.Common.{◌≡◌, ◌↔◌, ℕ, Bool, true, false, if◌then◌else◌, List, Some, None, Result, Ok, Err, refl, ap, subst}
 use Rattle.std.specs.Result.{result_ok}
 use Rattle.std.specs.Str.{is_utf8}
 use Rattle.md_expr_tree.specs.declared.tree.Expr.{Expr}
 use Rattle.md_expr.specs.Answer.{Answers}
 use Rattle.md_expr.specs.Outcome.{outcome}
 use Rattle.md_expr.proofs.Outcomes.{is_answer, outcome_read}
+use Rattle.md_script.specs.Readings.{reading_of}
 use Rattle.md_script.specs.Words.{expression_of}
 
 is_ok : {A E : Type 0} (r : Result A E) (x : A) → result_ok r ≡ Some x → r ≡ Ok x
@@ -17,5 +18,5 @@ by_utf8 true text expr h = (refl, subst (λ r. Answers r text) (is_ok (outcome t
 by_utf8 false text expr h = cc
 
 pub expression_reads : (text : List ℕ) (expr : Expr) → (expression_of text ≡ Some expr) ↔ ((is_utf8 text ≡ true) × Answers (Ok expr) text)
-unfolding expression_of
+unfolding expression_of reading_of
 expression_reads text expr = (by_utf8 (is_utf8 text) text expr, λ reads. rw reads.0 (outcome_read text expr ((is_answer text).only (Ok expr) reads.1)))

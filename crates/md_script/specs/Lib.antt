@@ -1,5 +1,6 @@
 pub mod Lines
 pub mod Escapes
+pub mod Readings
 pub mod Words
 pub mod Options
 pub mod Query

@@ -7,9 +7,9 @@ use Rattle.std.specs.Str.{is_utf8}
 use Rattle.md_value.specs.Path.{is_bad, normal}
 use Rattle.md_words.specs.Numbers.{number_in}
 use Rattle.md_expr_tree.specs.declared.tree.Expr.{Expr}
-use Rattle.md_expr.specs.Outcome.{outcome}
 use Rattle.md_script.specs.Lines.{is_space}
 use Rattle.md_script.specs.Escapes.{unescaped}
+use Rattle.md_script.specs.Readings.{reading_of}
 
 -- a client's number after the letter `c`
 unfoldable pub client_of : List ℕ → Option ℕ
@@ -40,8 +40,7 @@ path_of word = if list_any is_space word then None else option_and_then below_ro
 unfoldable pub content_of : List ℕ → Option (List ℕ)
 content_of rest = option_and_then (λ text. if is_utf8 text then Some text else None) (unescaped rest)
 
--- The expression that a text is read as. By the law `expressions_are_read` it is `Some e` exactly where the text is UTF-8 and
--- reads as `e` within the limits, by the relation `Answers` of md_expr; so `outcome` decides that relation, and need not be
--- read.
+-- The expression that a text is read as, where it is UTF-8 and its reading gives one. By the law `expressions_are_read` it is
+-- `Some e` exactly where the text is UTF-8 and the relation `Answers` of md_expr holds of `Ok e` and the text.
 unfoldable pub expression_of : List ℕ → Option Expr
-expression_of text = if is_utf8 text then result_ok (outcome text) else None
+expression_of text = if is_utf8 text then result_ok (reading_of text).answer else None
