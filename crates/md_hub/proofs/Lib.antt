@@ -10,5 +10,7 @@ mod Stepping
 pub mod Sound
 mod Keeping
 mod Counting
+mod Seeing
+mod Making
 pub mod Refused
 pub mod Crossing

@@ -1,5 +1,8 @@
 pub mod Places
 pub mod States
+pub mod Served
+pub mod KeptRows
+pub mod Reads
 pub mod Pinned
 pub mod Asked
 pub mod Stepping

@@ -1,5 +1,5 @@
 // What the live queries are asked, over the store that has their bases.
-ghost use Rattle.std.specs.Prelude.{◌≡◌, ◌∷◌, ◌++◌, ◌<◌, ◌≤◌, [], length, is_some, IfOk, OnOk, OnErr, Some, true};
+ghost use Rattle.std.specs.Prelude.{◌≡◌, ◌∷◌, ◌++◌, ◌+◌, ◌<◌, ◌≤◌, [], length, is_some, IfOk, OnOk, OnErr, Some, true};
 ghost use Rattle.std.specs.List.{IsDistinct};
 ghost use Rattle.std.specs.Option.{option_map};
 ghost use Rattle.md_world.specs.Differences.{items_of};
@@ -12,6 +12,7 @@ ghost use Rattle.md_hub.specs.Asked.{IsSettled, LeavesShown, IsAnswer, answer_to
 ghost use Rattle.md_hub.specs.Given.{given_by};
 ghost use Rattle.md_hub.specs.Pinned.{ArePinned, WithPins};
 ghost use Rattle.md_hub.specs.Places.{IsPlace, reply_of, queries_after};
+ghost use Rattle.md_hub.specs.Reads.{reads_asked, held_reads};
 ghost use Rattle.md_hub.specs.States.{with_tables};
 
 use crate::Held;
@@ -21,7 +22,9 @@ use md_machine::{Reply, Spec};
 use md_query::{Ask, Effect};
 use md_store::Store;
 use md_value::Copied;
+use md_world::Steps;
 use std::alloc::{AllocError, Global};
+use std::sync::ledger::Ledger;
 
 /// Which query is asked what, and when.
 #[derive(Clone, Copy, Debug, Drop)]
@@ -90,29 +93,32 @@ fn settle(queries: &mut Vec<LiveQuery>, store: &mut Store, place: usize, effect:
 }
 
 // What the query at its place answers. Nothing changes.
-fn answer(
+fn answer<L: Ledger>(
     alloc: Global,
     queries: &[LiveQuery],
     store: &Store,
     place: usize,
     call: Call,
+    steps: &mut Steps<L>,
 ) -> Result<(Reply, Effect), AllocError>
     requires place { IsPlace queries.now call.client call.number place }
     requires pinned { ArePinned store.now.pins queries.now }
     requires few { (q : OneQuery) → query_at (with_tables store.now.places queries.now) call.client call.number ≡ Some q → items_of (diff q.spec q.rows (table_at store.now.places store.now.version)) ≤ store.now.version }
     ensures answer { IfOk result (λ a. IsAnswer store.now queries.now call place a.0 a.1) }
     ensures memory { OnErr result (takes_memory (reply_of (answer_to store.now call) (query_at (with_tables store.now.places queries.now) call.client call.number)) ≡ true) }
+    ensures reads { steps.new ≤ steps.old + reads_asked (table_at store.now.places store.now.version) (answer_to store.now call) (query_at (with_tables store.now.places queries.now) call.client call.number) }
 {
     let limits = store.limits();
-    queries[place].reply(alloc, call.ask, call.now_ms, &limits, store)
+    queries[place].reply(alloc, call.ask, call.now_ms, &limits, store, steps)
 }
 
 /// What the query that is asked answers; the query is as its answer leaves it, and its base is pinned.
-pub fn ask(
+pub fn ask<L: Ledger>(
     alloc: Global,
     queries: &mut Vec<LiveQuery>,
     store: &mut Store,
     call: Call,
+    steps: &mut Steps<L>,
 ) -> Result<Reply, AllocError>
     requires pinned { ArePinned store.old.pins queries.old.items }
     requires few { (q : OneQuery) → query_at (with_tables store.old.places queries.old.items) call.client call.number ≡ Some q → items_of (diff q.spec q.rows (table_at store.old.places store.old.version)) ≤ store.old.version }
@@ -122,11 +128,12 @@ pub fn ask(
     ensures pinned { ArePinned store.new.pins queries.new.items }
     ensures err { OnErr result ((queries.new.items ≡ queries.old.items) × (store.new ≡ store.old)) }
     ensures memory { OnErr result (takes_memory (reply_of (answer_to store.old call) (query_at (with_tables store.old.places queries.old.items) call.client call.number)) ≡ true) }
+    ensures reads { steps.new ≤ steps.old + reads_asked (table_at store.old.places store.old.version) (answer_to store.old call) (query_at (with_tables store.old.places queries.old.items) call.client call.number) }
 {
     match place_of(queries, call.client, call.number) {
         None => Ok(Reply::NoQuery),
         Some(place) => {
-            let answer = answer(alloc, queries, store, place, call)?;
+            let answer = answer(alloc, queries, store, place, call, steps)?;
             let (reply, effect) = answer;
             settle(queries, store, place, effect);
             Ok(reply)
@@ -135,11 +142,12 @@ pub fn ask(
 }
 
 /// What the query that is asked answers, twice; the query is as its answer leaves it, and its base is pinned.
-pub fn ask_twice(
+pub fn ask_twice<L: Ledger>(
     alloc: Global,
     queries: &mut Vec<LiveQuery>,
     store: &mut Store,
     call: Call,
+    steps: &mut Steps<L>,
 ) -> Result<(Reply, Reply), AllocError>
     requires pinned { ArePinned store.old.pins queries.old.items }
     requires few { (q : OneQuery) → query_at (with_tables store.old.places queries.old.items) call.client call.number ≡ Some q → items_of (diff q.spec q.rows (table_at store.old.places store.old.version)) ≤ store.old.version }
@@ -154,7 +162,7 @@ pub fn ask_twice(
     match place_of(queries, call.client, call.number) {
         None => Ok((Reply::NoQuery, Reply::NoQuery)),
         Some(place) => {
-            let answer = answer(alloc, queries, store, place, call)?;
+            let answer = answer(alloc, queries, store, place, call, steps)?;
             let (reply, effect) = answer;
             let copy = reply.copy(alloc)?;
             settle(queries, store, place, effect);
@@ -164,18 +172,20 @@ pub fn ask_twice(
 }
 
 /// What the query of this client and number has given, if it is there. Fails only where memory runs out.
-pub fn held(
+pub fn held<L: Ledger>(
     alloc: Global,
     queries: &[LiveQuery],
     store: &Store,
     client: u8,
     number: u32,
+    steps: &mut Steps<L>,
 ) -> Result<Option<Held>, AllocError>
     requires { ArePinned store.now.pins queries.now }
-    ensures { IfOk result (λ held. held ≡ option_map given_by (query_at (with_tables store.now.places queries.now) client number)) }
+    ensures reads { steps.new ≤ steps.old + held_reads (query_at (with_tables store.now.places queries.now) client number) }
+    ensures given { IfOk result (λ held. held ≡ option_map given_by (query_at (with_tables store.now.places queries.now) client number)) }
 {
     match place_of(queries, client, number) {
         None => Ok(None),
-        Some(place) => Ok(Some(queries[place].held(alloc, store)?)),
+        Some(place) => Ok(Some(queries[place].held(alloc, store, steps)?)),
     }
 }

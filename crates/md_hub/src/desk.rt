@@ -6,6 +6,8 @@ ghost use Rattle.md_machine.specs.States.{Query};
 ghost use Rattle.md_machine.specs.Steps.{step};
 ghost use Rattle.md_store.specs.Stores.{is_shown};
 ghost use Rattle.md_hub.specs.States.{state_of};
+ghost use Rattle.md_store.specs.Places.{places_seen};
+ghost use Rattle.md_hub.specs.KeptRows.{kept_by};
 ghost use Rattle.md_hub.specs.Pinned.{AreMade};
 
 use md_machine::{Event, Reply};
@@ -18,6 +20,7 @@ use std::alloc::AllocError;
 pub fn draw(store: &mut Store, path: &Path) -> Result<Reply, AllocError>
     ensures reply { (queries : List Query) → IfOk result (λ r. r ≡ (step (state_of store.old queries) (Event.Draw path.now)).reply) }
     ensures state { (queries : List Query) → OnOk result (state_of store.new queries ≡ (step (state_of store.old queries) (Event.Draw path.now)).state) }
+    ensures kept { store.new.places ≡ store.old.places }
     ensures pins { store.new.pins ≡ store.old.pins }
     ensures err { OnErr result (store.new ≡ store.old) }
     ensures memory { (queries : List Query) → OnErr result (takes_memory (step (state_of store.old queries) (Event.Draw path.now)).reply ≡ true) }
@@ -34,6 +37,7 @@ pub fn draw(store: &mut Store, path: &Path) -> Result<Reply, AllocError>
 pub fn commit(store: &mut Store, number: u32, change: &Change) -> Result<Reply, AllocError>
     ensures reply { (queries : List Query) → IfOk result (λ r. r ≡ (step (state_of store.old queries) (Event.Commit number change.now)).reply) }
     ensures state { (queries : List Query) → AreMade store.old.version queries → OnOk result (state_of store.new queries ≡ (step (state_of store.old queries) (Event.Commit number change.now)).state) }
+    ensures kept { IfOk result (λ r. store.new.places ≡ kept_by store.old.tickets store.old.places number change.now r) }
     ensures pins { store.new.pins ≡ store.old.pins }
     ensures err { OnErr result (store.new ≡ store.old) }
     ensures memory { (queries : List Query) → OnErr result (takes_memory (step (state_of store.old queries) (Event.Commit number change.now)).reply ≡ true) }
@@ -55,6 +59,7 @@ pub fn commit(store: &mut Store, number: u32, change: &Change) -> Result<Reply, 
 pub fn close(store: &mut Store, number: u32) -> Reply
     ensures reply { (queries : List Query) → result ≡ (step (state_of store.old queries) (Event.Close number)).reply }
     ensures state { (queries : List Query) → state_of store.new queries ≡ (step (state_of store.old queries) (Event.Close number)).state }
+    ensures kept { store.new.places ≡ store.old.places }
     ensures pins { store.new.pins ≡ store.old.pins }
     ensures plain { delivers result ≡ false }
 {
@@ -64,9 +69,10 @@ pub fn close(store: &mut Store, number: u32) -> Reply
     }
 }
 
-/// Gives up the rows that no version shows that can be read, where each query's base is one.
+/// Gives up exactly the rows that no version shows that can be read, where each query's base is one.
 pub fn vacuum(store: &mut Store)
     ensures state { (queries : List Query) → AllByRecursion (λ (q : Query). is_shown store.old q.base ≡ true) queries → state_of store.new queries ≡ state_of store.old queries }
+    ensures kept { store.new.places ≡ places_seen store.old.version store.old.pins store.old.places }
     ensures pins { store.new.pins ≡ store.old.pins }
 {
     store.vacuum();

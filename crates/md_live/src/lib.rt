@@ -8,6 +8,7 @@
 //! first form of time whose moment is out of range in a run that begins now.
 #![tactic(auto)]
 
+mod counted;
 mod given;
 pub mod laws;
 mod moments;

@@ -13,6 +13,7 @@ ghost use Rattle.md_live.specs.Moments.{moment_of};
 ghost use Rattle.md_live.specs.TimeForms.{form_out};
 ghost use Rattle.md_live.specs.Telling.{Telling, unstarted, after_events, after_action, followed_in, asked_events, given_to, sum_so_far};
 
+use crate::counted;
 use crate::moments::time_of;
 use crate::sums::Sum;
 use crate::tally::Tally;
@@ -53,7 +54,7 @@ impl Model for Session {
 
     ghost coded = { Prim.hlevel (codes, expr.the_row.coded) };
 
-    ghost view = { λ s. record { state = s.hub; report = s.report; next = s.next; tally = s.tally } };
+    ghost view = { λ s. record { state = s.hub.state; report = s.report; next = s.next; tally = s.tally } };
 
     ghost invariant = { λ s. IsBelow s.next s.tally };
 }
@@ -133,7 +134,7 @@ impl Session {
         ensures reply { IfOk result (λ r. r ≡ (step self.old.state event.now).reply) }
         ensures known { OnOk result (self.new ≡ after_events self.old (event.now ∷ [])) }
     {
-        let reply = self.hub.step(alloc, event);
+        let reply = counted::step(alloc, &mut self.hub, event);
         if let Reply::Memory = reply {
             return Err(AllocError);
         }
@@ -199,7 +200,7 @@ impl Session {
     ) -> Result<Option<Follower>, AllocError>
         ensures { IfOk result (λ follower. follower ≡ followed_in self.now.state client number) }
     {
-        let Some(held) = self.hub.held(alloc, client, number)? else {
+        let Some(held) = counted::held(alloc, &self.hub, client, number)? else {
             return Ok(None);
         };
         let mut follower = Follower::new(alloc, held.order, held.version);
@@ -302,7 +303,7 @@ impl Session {
     fn held_count(&self, alloc: Global, client: u8) -> Result<usize, AllocError>
         ensures { IfOk result (λ count. count ≡ given_to self.now.state client) }
     {
-        let Some(held) = self.hub.held(alloc, client, COUNTED_QUERY)? else {
+        let Some(held) = counted::held(alloc, &self.hub, client, COUNTED_QUERY)? else {
             return Ok(0);
         };
         Ok(held.rows.len())
@@ -326,7 +327,7 @@ impl Session {
         Ok(Sum {
             events: self.next - 1,
             version: self.hub.version(),
-            rows: self.hub.rows(alloc)?.len(),
+            rows: counted::rows(alloc, &self.hub)?.len(),
             tally: self.tally,
             held: self.held_counts(alloc, clients)?,
         })

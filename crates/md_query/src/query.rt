@@ -12,6 +12,7 @@ ghost use Rattle.md_query.specs.Standings.{query_of, nameless, is_finished};
 ghost use Rattle.md_store.specs.Places.{Place, table_at};
 ghost use Rattle.md_store.specs.Stores.{is_shown};
 ghost use Rattle.md_query.specs.Asked.{newest_of, answered, settled};
+ghost use Rattle.md_query.specs.Reads.{most_reads};
 
 use crate::asking::{self, Answer, Ask, Effect};
 use crate::reading::read;
@@ -20,9 +21,10 @@ use md_machine::{Reply, Spec};
 use md_match::Filter;
 use md_store::Store;
 use md_value::Items;
-use md_world::{Limits, Order, Row, Rows};
+use md_world::{Limits, Order, Row, Rows, Steps};
 use std::alloc::{AllocError, Global};
 use std::marker::Model;
+use std::sync::ledger::Ledger;
 
 /// How far a query is.
 #[derive(Clone, Copy, Debug, Drop)]
@@ -110,16 +112,18 @@ impl Query {
 
     // The rows of a version that the query asks for.
     #[tactic(auto, using(crate::proofs::Hits::passes_answer))]
-    fn hits<'a>(
+    fn hits<'a, L: Ledger>(
         &self,
         alloc: Global,
         store: &'a Store,
         version: u32,
+        steps: &mut Steps<L>,
     ) -> Result<Vec<&'a Row>, AllocError>
         requires { is_shown store.now version ≡ true }
-        ensures { IfOk result (λ hits. rows_of hits.items ≡ answer self.now.spec (table_at store.now.places version)) }
+        ensures hits { IfOk result (λ hits. rows_of hits.items ≡ answer self.now.spec (table_at store.now.places version)) }
+        ensures reads { steps.new ≤ steps.old + length (table_at store.now.places version) }
     {
-        let rows = read(alloc, store, version)?;
+        let rows = read(alloc, store, version, steps)?;
         tables::passing(alloc, &self.filter, &rows)
     }
 
@@ -135,11 +139,17 @@ impl Query {
     }
 
     /// What it has given: the hits so far while it gathers, and then all. Fails only where memory runs out.
-    pub fn held(&self, alloc: Global, store: &Store) -> Result<Rows, AllocError>
+    pub fn held<L: Ledger>(
+        &self,
+        alloc: Global,
+        store: &Store,
+        steps: &mut Steps<L>,
+    ) -> Result<Rows, AllocError>
         requires { is_shown store.now self.now.base ≡ true }
-        ensures { IfOk result (λ rows. rows ≡ hits_given self.now.phase (shown_answer self.now.spec (table_at store.now.places self.now.base))) }
+        ensures given { IfOk result (λ rows. rows ≡ hits_given self.now.phase (shown_answer self.now.spec (table_at store.now.places self.now.base))) }
+        ensures reads { steps.new ≤ steps.old + length (table_at store.now.places self.now.base) }
     {
-        let hits = self.hits(alloc, store, self.base)?;
+        let hits = self.hits(alloc, store, self.base, steps)?;
         Ok(Items::from_vec(self.given(alloc, &hits)?))
     }
 
@@ -188,28 +198,37 @@ impl Query {
     }
 
     #[tactic(auto, using(crate::proofs::Hits::shown_left))]
-    fn next_part(
+    fn next_part<L: Ledger>(
         &self,
         alloc: Global,
         given: usize,
         now_ms: u64,
         store: &Store,
+        steps: &mut Steps<L>,
     ) -> Result<Answer, AllocError>
         requires { is_shown store.now self.now.base ≡ true }
         ensures reply { IfOk result (λ a. a.0 ≡ (next_part (nameless store.now.places self.now) given (drop given (shown_answer self.now.spec (table_at store.now.places self.now.base))) (most_hits self.now.spec.batch given) now_ms).reply) }
         ensures query { IfOk result (λ a. nameless store.now.places (settled self.now a.1) ≡ (next_part (nameless store.now.places self.now) given (drop given (shown_answer self.now.spec (table_at store.now.places self.now.base))) (most_hits self.now.spec.batch given) now_ms).query) }
         ensures memory { OnErr result (takes_memory (next_part (nameless store.now.places self.now) given (drop given (shown_answer self.now.spec (table_at store.now.places self.now.base))) (most_hits self.now.spec.batch given) now_ms).reply ≡ true) }
+        ensures reads { steps.new ≤ steps.old + length (table_at store.now.places self.now.base) }
     {
-        let hits = self.hits(alloc, store, self.base)?;
+        let hits = self.hits(alloc, store, self.base, steps)?;
         let left = tables::hits_after(&hits, given);
         self.part(alloc, given, left, now_ms)
     }
 
-    fn gather(&self, alloc: Global, now_ms: u64, store: &Store) -> Result<Answer, AllocError>
+    fn gather<L: Ledger>(
+        &self,
+        alloc: Global,
+        now_ms: u64,
+        store: &Store,
+        steps: &mut Steps<L>,
+    ) -> Result<Answer, AllocError>
         requires { is_shown store.now self.now.base ≡ true }
         ensures reply { IfOk result (λ a. a.0 ≡ (gather (nameless store.now.places self.now) now_ms).reply) }
         ensures query { IfOk result (λ a. nameless store.now.places (settled self.now a.1) ≡ (gather (nameless store.now.places self.now) now_ms).query) }
         ensures memory { OnErr result (takes_memory (gather (nameless store.now.places self.now) now_ms).reply ≡ true) }
+        ensures reads { (newest : List Row) → steps.new ≤ steps.old + most_reads newest (table_at store.now.places self.now.base) (gather (nameless store.now.places self.now) now_ms).reply }
     {
         match self.phase {
             Progressed::Finished => Ok((Reply::AlreadyFinished(self.base), Effect::Keep)),
@@ -217,7 +236,7 @@ impl Query {
                 if self.disables > 0 {
                     Ok((Reply::Held(self.disables), Effect::Keep))
                 } else {
-                    self.next_part(alloc, given, now_ms, store)
+                    self.next_part(alloc, given, now_ms, store, steps)
                 }
             }
         }
@@ -235,39 +254,66 @@ impl Query {
         }
     }
 
-    fn deliver(&self, alloc: Global, now_ms: u64, store: &Store) -> Result<Answer, AllocError>
+    // The hits of its base, and those of the newest version.
+    fn both_hits<'a, L: Ledger>(
+        &self,
+        alloc: Global,
+        store: &'a Store,
+        steps: &mut Steps<L>,
+    ) -> Result<(Vec<&'a Row>, Vec<&'a Row>), AllocError>
         requires { is_shown store.now self.now.base ≡ true }
+        ensures old { IfOk result (λ hits. rows_of hits.0.items ≡ answer self.now.spec (table_at store.now.places self.now.base)) }
+        ensures new { IfOk result (λ hits. rows_of hits.1.items ≡ answer self.now.spec (table_at store.now.places store.now.version)) }
+        ensures reads { steps.new ≤ steps.old + (length (table_at store.now.places self.now.base) + length (table_at store.now.places store.now.version)) }
+    {
+        let old = self.hits(alloc, store, self.base, steps)?;
+        let new = self.hits(alloc, store, store.version(), steps)?;
+        Ok((old, new))
+    }
+
+    // The notice of what differs between its base's hits and the newest version's.
+    fn deliver(
+        &self,
+        alloc: Global,
+        now_ms: u64,
+        store: &Store,
+        old: &[&Row],
+        new: &[&Row],
+    ) -> Result<Answer, AllocError>
+        requires old { rows_of old.now ≡ answer self.now.spec (table_at store.now.places self.now.base) }
+        requires new { rows_of new.now ≡ answer self.now.spec (table_at store.now.places store.now.version) }
         ensures reply { IfOk result (λ a. a.0 ≡ Reply.Notice (notice_of (diff self.now.spec (table_at store.now.places self.now.base) (table_at store.now.places store.now.version)) self.now.base store.now.version)) }
         ensures query { IfOk result (λ a. nameless store.now.places (settled self.now a.1) ≡ record (nameless store.now.places self.now) { base = store.now.version; rows = table_at store.now.places store.now.version; disables = 0; delivered = now_ms }) }
     {
         let version = store.version();
-        let old = self.hits(alloc, store, self.base)?;
-        let new = self.hits(alloc, store, version)?;
-        let notice = tables::notice(alloc, &old, &new, self.base, version)?;
+        let notice = tables::notice(alloc, old, new, self.base, version)?;
         Ok((Reply::Notice(notice), Effect::Deliver(version, now_ms)))
     }
 
-    fn count_pending(&self, alloc: Global, store: &Store) -> Result<usize, AllocError>
-        requires { is_shown store.now self.now.base ≡ true }
-        ensures { IfOk result (λ items. items ≡ items_of (diff self.now.spec (table_at store.now.places self.now.base) (table_at store.now.places store.now.version))) }
+    // How many items differ between its base's hits and the newest version's.
+    fn count_pending(&self, store: &Store, old: &[&Row], new: &[&Row]) -> u32
+        requires old { rows_of old.now ≡ answer self.now.spec (table_at store.now.places self.now.base) }
+        requires new { rows_of new.now ≡ answer self.now.spec (table_at store.now.places store.now.version) }
+        requires few { items_of (diff self.now.spec (table_at store.now.places self.now.base) (table_at store.now.places store.now.version)) ≤ store.now.version }
+        ensures { result ≡ items_of (diff self.now.spec (table_at store.now.places self.now.base) (table_at store.now.places store.now.version)) }
     {
-        let version = store.version();
-        let old = self.hits(alloc, store, self.base)?;
-        let new = self.hits(alloc, store, version)?;
-        Ok(tables::count_items(&old, &new))
+        let _most = store.version();
+        tables::count_items(old, new) as u32
     }
 
-    fn enable(
+    fn enable<L: Ledger>(
         &self,
         alloc: Global,
         now_ms: u64,
         limits: &Limits,
         store: &Store,
+        steps: &mut Steps<L>,
     ) -> Result<Answer, AllocError>
         requires { is_shown store.now self.now.base ≡ true }
         ensures reply { IfOk result (λ a. a.0 ≡ (enable (newest_of limits.now store.now) (nameless store.now.places self.now) now_ms).reply) }
         ensures query { IfOk result (λ a. nameless store.now.places (settled self.now a.1) ≡ (enable (newest_of limits.now store.now) (nameless store.now.places self.now) now_ms).query) }
         ensures memory { OnErr result (takes_memory (enable (newest_of limits.now store.now) (nameless store.now.places self.now) now_ms).reply ≡ true) }
+        ensures reads { steps.new ≤ steps.old + most_reads (table_at store.now.places store.now.version) (table_at store.now.places self.now.base) (enable (newest_of limits.now store.now) (nameless store.now.places self.now) now_ms).reply }
     {
         if self.disables == 0 {
             return Ok((Reply::NotDisabled, Effect::Keep));
@@ -278,16 +324,20 @@ impl Query {
         }
         match self.phase {
             Progressed::Gathering(_) => Ok((Reply::Resumed, Effect::Count(0))),
-            Progressed::Finished => self.deliver(alloc, now_ms, store),
+            Progressed::Finished => {
+                let (old, new) = self.both_hits(alloc, store, steps)?;
+                self.deliver(alloc, now_ms, store, &old, &new)
+            }
         }
     }
 
-    fn poll_finished(
+    fn poll_finished<L: Ledger>(
         &self,
         alloc: Global,
         now_ms: u64,
         limits: &Limits,
         store: &Store,
+        steps: &mut Steps<L>,
     ) -> Result<Answer, AllocError>
         requires finished { self.now.phase ≡ Finished }
         requires not_held { self.now.disables ≡ 0 }
@@ -296,31 +346,34 @@ impl Query {
         ensures reply { IfOk result (λ a. a.0 ≡ (poll (newest_of limits.now store.now) (nameless store.now.places self.now) now_ms).reply) }
         ensures query { IfOk result (λ a. nameless store.now.places (settled self.now a.1) ≡ (poll (newest_of limits.now store.now) (nameless store.now.places self.now) now_ms).query) }
         ensures memory { OnErr result (takes_memory (poll (newest_of limits.now store.now) (nameless store.now.places self.now) now_ms).reply ≡ true) }
+        ensures reads { steps.new ≤ steps.old + most_reads (table_at store.now.places store.now.version) (table_at store.now.places self.now.base) (poll (newest_of limits.now store.now) (nameless store.now.places self.now) now_ms).reply }
     {
-        let _newest = store.version();
-        let items = self.count_pending(alloc, store)?;
+        let (old, new) = self.both_hits(alloc, store, steps)?;
+        let items = self.count_pending(store, &old, &new);
         if asking::is_due(
             &self.spec.batch,
-            items,
+            items as usize,
             now_ms.saturating_sub(self.delivered),
         ) {
-            return self.deliver(alloc, now_ms, store);
+            return self.deliver(alloc, now_ms, store, &old, &new);
         }
-        Ok((Reply::NotYet(items as u32), Effect::Keep))
+        Ok((Reply::NotYet(items), Effect::Keep))
     }
 
-    fn poll(
+    fn poll<L: Ledger>(
         &self,
         alloc: Global,
         now_ms: u64,
         limits: &Limits,
         store: &Store,
+        steps: &mut Steps<L>,
     ) -> Result<Answer, AllocError>
         requires shown { is_shown store.now self.now.base ≡ true }
         requires few { items_of (diff self.now.spec (table_at store.now.places self.now.base) (table_at store.now.places store.now.version)) ≤ store.now.version }
         ensures reply { IfOk result (λ a. a.0 ≡ (poll (newest_of limits.now store.now) (nameless store.now.places self.now) now_ms).reply) }
         ensures query { IfOk result (λ a. nameless store.now.places (settled self.now a.1) ≡ (poll (newest_of limits.now store.now) (nameless store.now.places self.now) now_ms).query) }
         ensures memory { OnErr result (takes_memory (poll (newest_of limits.now store.now) (nameless store.now.places self.now) now_ms).reply ≡ true) }
+        ensures reads { steps.new ≤ steps.old + most_reads (table_at store.now.places store.now.version) (table_at store.now.places self.now.base) (poll (newest_of limits.now store.now) (nameless store.now.places self.now) now_ms).reply }
     {
         match self.phase {
             Progressed::Gathering(_) => Ok((Reply::NotFinished, Effect::Keep)),
@@ -328,45 +381,50 @@ impl Query {
                 if self.disables > 0 {
                     Ok((Reply::Held(self.disables), Effect::Keep))
                 } else {
-                    self.poll_finished(alloc, now_ms, limits, store)
+                    self.poll_finished(alloc, now_ms, limits, store, steps)
                 }
             }
         }
     }
 
     // What it answers under whatever client and number.
-    fn answer(
+    fn answer<L: Ledger>(
         &self,
         alloc: Global,
         ask: Ask,
         now_ms: u64,
         limits: &Limits,
         store: &Store,
+        steps: &mut Steps<L>,
     ) -> Result<Answer, AllocError>
         requires shown { is_shown store.now self.now.base ≡ true }
         requires few { items_of (diff self.now.spec (table_at store.now.places self.now.base) (table_at store.now.places store.now.version)) ≤ store.now.version }
         ensures reply { IfOk result (λ a. a.0 ≡ (answered (newest_of limits.now store.now) ask now_ms (nameless store.now.places self.now)).reply) }
         ensures query { IfOk result (λ a. nameless store.now.places (settled self.now a.1) ≡ (answered (newest_of limits.now store.now) ask now_ms (nameless store.now.places self.now)).query) }
         ensures memory { OnErr result (takes_memory (answered (newest_of limits.now store.now) ask now_ms (nameless store.now.places self.now)).reply ≡ true) }
+        ensures reads { steps.new ≤ steps.old + most_reads (table_at store.now.places store.now.version) (table_at store.now.places self.now.base) (answered (newest_of limits.now store.now) ask now_ms (nameless store.now.places self.now)).reply }
     {
         match ask {
-            Ask::Gather => self.gather(alloc, now_ms, store),
+            Ask::Gather => self.gather(alloc, now_ms, store, steps),
             Ask::Disable => Ok(self.disable(limits)),
-            Ask::Enable => self.enable(alloc, now_ms, limits, store),
-            Ask::Poll => self.poll(alloc, now_ms, limits, store),
+            Ask::Enable => self.enable(alloc, now_ms, limits, store, steps),
+            Ask::Poll => self.poll(alloc, now_ms, limits, store, steps),
         }
     }
 
     /// What it answers at this moment, in milliseconds, and what the answer makes of it. Nothing changes. The store has its
     /// base, which is the newest version or is pinned.
-    pub fn reply(
+    pub fn reply<L: Ledger>(
         &self,
         alloc: Global,
         ask: Ask,
         now_ms: u64,
+        newest: u32,
         limits: &Limits,
         store: &Store,
+        steps: &mut Steps<L>,
     ) -> Result<(Reply, Effect), AllocError>
+        requires newest { newest ≡ store.now.version }
         requires shown { is_shown store.now self.now.base ≡ true }
         // There are no fewer versions than items that differ from the base.
         requires few { items_of (diff self.now.spec (table_at store.now.places self.now.base) (table_at store.now.places store.now.version)) ≤ store.now.version }
@@ -376,8 +434,10 @@ impl Query {
         ensures query { IfOk result (λ a. (client number : ℕ) → query_of store.now.places client number (settled self.now a.1) ≡ (answered (newest_of limits.now store.now) ask now_ms (query_of store.now.places client number self.now)).query) }
         // Memory runs out at a reply that takes some.
         ensures memory { OnErr result ((client number : ℕ) → takes_memory (answered (newest_of limits.now store.now) ask now_ms (query_of store.now.places client number self.now)).reply ≡ true) }
+        // A reply reads no more rows than its making takes, also where memory runs out.
+        ensures reads { (client number : ℕ) → steps.new ≤ steps.old + most_reads (table_at store.now.places newest) (table_at store.now.places self.now.base) (answered (newest_of limits.now store.now) ask now_ms (query_of store.now.places client number self.now)).reply }
     {
-        self.answer(alloc, ask, now_ms, limits, store)
+        self.answer(alloc, ask, now_ms, limits, store, steps)
     }
 
     /// Takes an answer's effect over. Cannot fail.

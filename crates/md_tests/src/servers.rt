@@ -1,26 +1,43 @@
 // Runs of the server over events that no line of a script gives: late commits, small limits.
+ghost use Rattle.std.specs.Prelude.{◌≡◌, ◌<◌};
+
 use md_expr::read;
 use md_hub::run;
 use md_machine::{Batch, Event, Spec};
 use md_render::push_entry;
 use md_value::{Attrs, Name, Path, Text, Value};
-use md_world::{Change, Limits, Order};
+use md_world::{Change, Limits, Order, Steps};
 use std::alloc::Global;
+use std::marker::Brand;
+use std::sync::ledger::{Blank, Ledger};
 use std::test::Fail;
 
-/// The journal of these events.
-fn journal(alloc: Global, limits: Limits, events: &[Event]) -> Result<String, Fail> {
-    let (hub, replies) = run(alloc, limits, events)?;
+fn counted_journal<L: Ledger>(
+    alloc: Global,
+    limits: Limits,
+    events: &[Event],
+    blank: Blank,
+) -> Result<String, Fail>
+    requires name { blank.name ≡ L.name }
+    requires parts { (blank.parts ≡ L.parts) × (0 < L.parts) }
+{
+    let mut steps = Steps::<L>::open(blank);
+    let (hub, replies) = run(alloc, limits, events, &mut steps)?;
     let mut text = String::new(alloc);
     let mut place = 1u64;
     for (event, reply) in events.iter().zip(replies.iter()) {
         push_entry(&mut text, place, event, reply)?;
         place = place.saturating_add(1);
     }
-    let rows = hub.rows(alloc)?.len();
+    let rows = hub.rows(alloc, &mut steps)?.len();
     let version = hub.version();
     writeln!(text, "version {version}, {rows} rows")?;
     Ok(text)
+}
+
+/// The journal of these events.
+fn journal(alloc: Global, limits: Limits, events: &[Event]) -> Result<String, Fail> {
+    counted_journal::<Brand>(alloc, limits, events, Blank::new(1))
 }
 
 fn draw(alloc: Global, path: &str) -> Result<Event, Fail> {
@@ -164,10 +181,18 @@ fn stopped(alloc: Global) -> Result<Vec<Event>, Fail> {
     Ok(events)
 }
 
+fn counted_rows<L: Ledger>(alloc: Global, events: &[Event], blank: Blank) -> Result<usize, Fail>
+    requires name { blank.name ≡ L.name }
+    requires parts { (blank.parts ≡ L.parts) × (0 < L.parts) }
+{
+    let mut steps = Steps::<L>::open(blank);
+    let (hub, _) = run(alloc, Limits::STANDARD, events, &mut steps)?;
+    Ok(hub.kept())
+}
+
 // How many rows the server keeps after these events.
 fn kept(alloc: Global, events: Result<Vec<Event>, Fail>) -> Result<usize, Fail> {
-    let (hub, _) = run(alloc, Limits::STANDARD, &events?)?;
-    Ok(hub.kept())
+    counted_rows::<Brand>(alloc, &events?, Blank::new(1))
 }
 
 #[test]

@@ -1,4 +1,4 @@
-use Rattle.std.proofs.Common.{◌≡◌, ◌≤◌, true, sym, ap, subst, ◌∙◌}
+use Rattle.std.proofs.Common.{◌≡◌, ◌≤◌, ◌+◌, ℕ, true, sym, ap, subst, ◌∙◌}
 use Rattle.std.proofs.lemmas.Option.{get_or_from_slice_get}
 use Rattle.md_world.specs.declared.Limits.{Limits}
 use Rattle.md_world.specs.Differences.{items_of}
@@ -9,7 +9,9 @@ use Rattle.md_machine.specs.Steps.{Answered}
 use Rattle.md_store.specs.Places.{table_at}
 use Rattle.md_store.specs.Stores.{is_shown}
 use Rattle.md_query.specs.Asked.{newest_of, answered}
+use Rattle.md_query.specs.Reads.{most_reads}
 use Rattle.md_hub.specs.Asked.{settled_in, answer_to}
+use Rattle.md_hub.specs.Reads.{reads_asked}
 use Rattle.md_hub.specs.States.{with_table}
 use Rattle.md_hub.proofs.Answering.{asked_found, asked_reply, is_answer}
 use Rattle.md_hub.proofs.Keeping.{if_ok_both, on_err_more}
@@ -17,7 +19,7 @@ use Rattle.md_hub.proofs.Pinning.{shown_at}
 use Rattle.md_hub.proofs.asks.answer.Goals as goal
 
 pub reply-requires-clause-shown : goal.reply-requires-clause-shown
-reply-requires-clause-shown c =
+reply-requires-clause-shown g c =
     let qs = c.args.queries.now in
     let s = c.args.store.now in
     let i = c.args.place in
@@ -27,7 +29,7 @@ reply-requires-clause-shown c =
     subst (λ (x : Query). is_shown s x.base ≡ true) (sym was) (shown_at s qs c.requires.pinned i q place.there)
 
 pub reply-requires-clause-few : goal.reply-requires-clause-few
-reply-requires-clause-few c =
+reply-requires-clause-few g c =
     let qs = c.args.queries.now in
     let s = c.args.store.now in
     let i = c.args.place in
@@ -38,7 +40,7 @@ reply-requires-clause-few c =
     (c.requires.few (with_table s.places q) (asked_found s qs c.args.call i place))
 
 pub returns-clause-answer : goal.returns-clause-answer
-returns-clause-answer c =
+returns-clause-answer g c =
     let qs = c.args.queries.now in
     let s = c.args.store.now in
     let call = c.args.call in
@@ -56,7 +58,7 @@ returns-clause-answer c =
     c.reply.ensures.reply c.reply.ensures.query
 
 pub returns-clause-memory : goal.returns-clause-memory
-returns-clause-memory c =
+returns-clause-memory g c =
     let qs = c.args.queries.now in
     let s = c.args.store.now in
     let call = c.args.call in
@@ -70,3 +72,19 @@ returns-clause-memory c =
     on_err_more _ _ c.reply.result
     (λ takes. ap takes_memory (sym (ap (λ (x : Answered). x.reply) to ∙ asked_reply s qs call i place)) ∙ takes)
     c.reply.ensures.memory
+
+pub returns-clause-reads : goal.returns-clause-reads
+returns-clause-reads g c =
+    let qs = c.args.queries.now in
+    let s = c.args.store.now in
+    let call = c.args.call in
+    let i = c.args.place in
+    let place = c.requires.place in
+    let q = place.query in
+    let newest = table_at s.places s.version in
+    let was : c.index-queries-place.result ≡ q = c.index-queries-place.is ∙ get_or_from_slice_get qs i q c.index-queries-place.result place.there in
+    let same =
+    ap (λ (x : Query). most_reads newest (table_at s.places x.base) (answered (newest_of c.limits-limits.result s) call.ask call.now_ms (with_table s.places x)).reply) was
+    ∙ ap (λ (x : Limits). most_reads newest (table_at s.places q.base) (answered (newest_of x s) call.ask call.now_ms (with_table s.places q)).reply) c.limits-limits.ensures
+    ∙ ap (reads_asked newest (answer_to s call)) (sym (asked_found s qs call i place)) in
+    subst (λ (n : ℕ). c.reply.new.steps ≤ c.args.steps.now + n) same c.reply.ensures.reads

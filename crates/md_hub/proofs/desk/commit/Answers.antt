@@ -1,4 +1,4 @@
-use Rattle.std.proofs.Common.{◌≡◌, ℕ, refl, sym, ap, subst, ◌∙◌}
+use Rattle.std.proofs.Common.{◌≡◌, ℕ, ◌+◌, refl, sym, ap, subst, ◌∙◌}
 use Rattle.std.specs.Prelude.{Some, None}
 use Rattle.md_machine.specs.Replies.{takes_memory}
 use Rattle.md_machine.specs.States.{State}
@@ -12,6 +12,8 @@ use Rattle.md_store.specs.declared.ready.ReadyEnd.TheVariants as end
 use Rattle.md_hub.specs.Pinned.{AreMade}
 use Rattle.md_hub.specs.States.{state_of}
 use Rattle.md_hub.proofs.Tying.{allowed_is, commit_is, refusal_is, refusal_from, allowed_from, superseded_open, closed_is, err_inj}
+use Rattle.md_hub.specs.KeptRows.{kept_by}
+use Rattle.md_hub.proofs.Making.{made_is}
 use Rattle.md_hub.proofs.desk.commit.Goals as goal
 
 pub returns-in-Ok-clause-reply : goal.returns-in-Ok-clause-reply
@@ -77,3 +79,15 @@ returns-in-Err-Memory-clause-memory c queries =
     let w = c.in-Err-Memory in
     let allowed : refusal s n ≡ None = allowed_from s n (λ e h. sym w.field-0-is ∙ err_inj _ w.field-0 e refl (w.ensures.refused e h)) in
     ap (λ (o : StepResult). takes_memory o.reply) (allowed_is s queries n c.args.change.now allowed).2
+
+pub returns-in-Ok-clause-kept : goal.returns-in-Ok-clause-kept
+returns-in-Ok-clause-kept c =
+    let s = c.ready.new.self in
+    let r = c.in-Ok.ready in
+    let old = c.args.store.now in
+    let change = c.args.change.now in
+    ap (λ (x : Stored). x.places) c.apply.ensures.state
+    ∙ made_is s r change c.in-Ok.ensures.ready c.in-Ok.ensures.change.1
+    ∙ ap (λ (x : Stored). kept_by x.tickets x.places r.ticket change (reply.Committed (x.version + 1))) c.in-Ok.ensures.state
+    ∙ ap (λ (n : ℕ). kept_by old.tickets old.places n change (reply.Committed (old.version + 1))) c.in-Ok.ensures.change.0
+    ∙ sym (ap (λ (v : ℕ). kept_by old.tickets old.places c.args.number change (reply.Committed v)) (c.apply.ensures.version ∙ ap (λ (x : Stored). x.version + 1) c.in-Ok.ensures.state))

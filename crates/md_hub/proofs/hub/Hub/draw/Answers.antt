@@ -1,7 +1,7 @@
 use Rattle.std.proofs.Common.{ap}
 use Rattle.md_machine.specs.declared.Event.TheVariants as event
 use Rattle.md_store.specs.Stores.{Stored}
-use Rattle.md_hub.specs.States.{state_of}
+use Rattle.md_hub.specs.Served.{served_of}
 use Rattle.md_hub.proofs.Keeping.{on_either, on_err_more, kept_step, kept_same, kept_made}
 use Rattle.md_hub.proofs.hub.Hub.draw.Goals as goal
 
@@ -25,7 +25,7 @@ returns-clause-state c =
 pub returns-clause-err : goal.returns-clause-err
 returns-clause-err c =
     let qs = c.self.inside.queries.items in
-    rw (← c.self.view_is) (on_err_more _ _ c.draw.result (ap (λ (s : Stored). state_of s qs)) c.draw.ensures.err)
+    rw (← c.self.view_is) (on_err_more _ _ c.draw.result (ap (λ (s : Stored). served_of s qs)) c.draw.ensures.err)
 
 pub returns-clause-memory : goal.returns-clause-memory
 returns-clause-memory c = rw (← c.self.view_is) (c.draw.ensures.memory c.self.inside.queries.items)

@@ -11,9 +11,9 @@ use Rattle.md_hub.proofs.Sound.{given_ordered}
 use Rattle.md_hub.proofs.hub.Hub.held.Goals as goal
 
 pub returns-clause-ordered : goal.returns-clause-ordered
-returns-clause-ordered c =
+returns-clause-ordered g c =
     let h = c.self.inside in
     IfOk-weaker c.held.result _ _
     (λ held is. subst (λ (o : Option Held). IfSome o (λ given. IsTable given.rows))
     (sym (is ∙ ap (λ qs. option_map given_by (query_at (with_tables h.store.places qs) c.args.client c.args.number)) c.deref.ensures.value))
-    (given_ordered h.store.limits (state_of h.store h.queries.items) c.self.invariant.sound c.args.client c.args.number)) c.held.ensures
+    (given_ordered h.store.limits (state_of h.store h.queries.items) c.self.invariant.sound c.args.client c.args.number)) c.held.ensures.given

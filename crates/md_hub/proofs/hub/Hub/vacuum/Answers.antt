@@ -1,6 +1,9 @@
+use Rattle.std.proofs.Common.{ℕ, List, sym, ap, ◌∙◌}
 use Rattle.md_machine.specs.declared.Event.TheVariants as event
+use Rattle.md_store.specs.Places.{places_seen}
 use Rattle.md_hub.proofs.Keeping.{kept_step}
 use Rattle.md_hub.proofs.Pinning.{bases_shown}
+use Rattle.md_hub.proofs.Seeing.{bases_tables, seen_by_bases}
 use Rattle.md_hub.proofs.hub.Hub.vacuum.Goals as goal
 
 pub invariant_of-self : goal.invariant_of-self
@@ -14,3 +17,9 @@ returns-clause-state c =
     let h = c.self.inside in
     let qs = h.queries.items in
     rw (← c.self.view_is) (c.vacuum.ensures.state qs (bases_shown h.store qs c.self.invariant.pinned))
+
+pub returns-clause-kept : goal.returns-clause-kept
+returns-clause-kept c =
+    let s = c.self.inside.store in
+    let qs = c.self.inside.queries.items in
+    rw (← c.self.view_is) (c.vacuum.ensures.kept ∙ seen_by_bases s qs c.self.invariant.pinned ∙ ap (λ (versions : List ℕ). places_seen s.version versions s.places) (sym (bases_tables s.places qs)))

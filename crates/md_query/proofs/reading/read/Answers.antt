@@ -10,7 +10,7 @@ use Rattle.md_world.proofs.Lookups.{some_inj}
 use Rattle.md_store.specs.Places.{table_at, path_at}
 use Rattle.md_query.specs.Rows.{rows_of}
 use Rattle.md_query.proofs.Turns.{listed_within, listed_row, one_more, as_many}
-use Rattle.md_query.proofs.reading.read_counted.Goals as goal
+use Rattle.md_query.proofs.reading.read.Goals as goal
 
 pub row_at-requires-clause-place : goal.row_at-requires-clause-place
 row_at-requires-clause-place g c =
@@ -44,13 +44,15 @@ loop-place-preserved g c =
     let read : Some c.in-Some.row.now ≡ at table (path_at places place) = search rules in
     let same : c.in-Some.row.now ≡ r.0 = some_inj c.in-Some.row.now r.0 (read ∙ r.2) in
     let items : c.push.new.self.items ≡ c.loop-place.rows.items ++ c.in-Some.row ∷ [] = search rules in
-    ap rows_of items ∙ map-append (λ (hit : Bor Row). hit.now) c.loop-place.rows.items (c.in-Some.row ∷ [])
-    ∙ ap (λ xs. xs ++ c.in-Some.row.now ∷ []) c.loop-place.invariant
-    ∙ ap (λ (x : Row). take j table ++ x ∷ []) same ∙ sym (one_more table j r.0 r.1)
+    let read_before = c.loop-place.invariant.1 in
+    let one = c.row_at.ensures.cost in
+    (ap rows_of items ∙ map-append (λ (hit : Bor Row). hit.now) c.loop-place.rows.items (c.in-Some.row ∷ [])
+    ∙ ap (λ xs. xs ++ c.in-Some.row.now ∷ []) c.loop-place.invariant.0
+    ∙ ap (λ (x : Row). take j table ++ x ∷ []) same ∙ sym (one_more table j r.0 r.1), omega arith)
 
-pub returns : goal.returns
-returns g c =
+pub returns-clause-rows : goal.returns-clause-rows
+returns-clause-rows g c =
     let table = table_at c.args.store.now.places c.args.version in
     let many = as_many c.args.store.now.places table c.in_ok-places.places.items c.in_ok-places.ensures in
     let size : length c.deref-place-items.result.now ≡ length c.in_ok-places.places.items = ap length c.deref-place-items.ensures.value in
-    c.loop-place.invariant ∙ take_all c.loop-place.place-index table (omega (arith, many, size))
+    c.loop-place.invariant.0 ∙ take_all c.loop-place.place-index table (omega (arith, many, size))

@@ -1,8 +1,0 @@
-use Rattle.std.proofs.Common.{◌≡◌, take}
-use Rattle.md_store.specs.Places.{table_at}
-use Rattle.md_query.specs.Rows.{rows_of}
-use Rattle.md_query.proofs.reading.read_counted.Given as goal
-
--- the rows of the places so far
-abbrev pub invariant-loop-place : goal.invariant-loop-place
-invariant-loop-place g l = rows_of l.rows.items ≡ take l.place-index (table_at l.store.places l.version)
