@@ -17,14 +17,31 @@ USED = ["md_hub", "md_machine", "md_world", "md_value", "md_expr"]
 PROGRAM = """//! Times a server.
 #![tactic(auto)]
 
+ghost use Rattle.std.specs.Prelude.{◌≡◌, ◌<◌};
+
 use md_expr::read;
 use md_hub::Hub;
 use md_machine::{Batch, Event, Spec};
 use md_value::{Attrs, Path};
-use md_world::{Change, Limits, Order};
+use md_world::{Change, Limits, Order, Steps};
 use std::alloc::Global;
 use std::env;
+use std::marker::Brand;
+use std::sync::ledger::{Blank, Ledger};
 use std::time::Instant;
+
+// A server with a counter of the rows that it reads.
+#[derive(Drop)]
+struct Server<L: Ledger> {
+    hub: Hub,
+    steps: Steps<L>,
+}
+
+impl<L: Ledger> Server<L> {
+    fn step(&mut self, alloc: Global, event: &Event) {
+        self.hub.step(alloc, event, &mut self.steps);
+    }
+}
 
 fn draw(alloc: Global, number: usize) -> anyhow::Result<Event> {
     let text = format!(in alloc; "folder/file-{number}.txt")?;
@@ -53,64 +70,74 @@ fn create(alloc: Global, number: u32) -> anyhow::Result<Event> {
     Ok(Event::Create { client: 0, number, spec })
 }
 
-fn fill(alloc: Global, hub: &mut Hub, rows: u32) -> anyhow::Result<()> {
+fn fill<L: Ledger>(alloc: Global, server: &mut Server<L>, rows: u32) -> anyhow::Result<()> {
     for number in 0..rows {
-        hub.step(alloc, &draw(alloc, number as usize)?);
-        hub.step(alloc, &put(alloc, number.saturating_add(1)));
+        server.step(alloc, &draw(alloc, number as usize)?);
+        server.step(alloc, &put(alloc, number.saturating_add(1)));
     }
     Ok(())
 }
 
-fn finish(alloc: Global, hub: &mut Hub, from: u32, to: u32) -> anyhow::Result<()> {
+fn finish<L: Ledger>(alloc: Global, server: &mut Server<L>, from: u32, to: u32) -> anyhow::Result<()> {
     for number in from..to {
-        hub.step(alloc, &create(alloc, number)?);
-        hub.step(alloc, &Event::Gather { client: 0, number, now_ms: 0 });
+        server.step(alloc, &create(alloc, number)?);
+        server.step(alloc, &Event::Gather { client: 0, number, now_ms: 0 });
     }
     Ok(())
 }
 
-fn commit(alloc: Global, hub: &mut Hub, first: u32, count: u32) -> anyhow::Result<()> {
+fn commit<L: Ledger>(alloc: Global, server: &mut Server<L>, first: u32, count: u32) -> anyhow::Result<()> {
     for number in 0..count {
-        hub.step(alloc, &draw(alloc, number as usize)?);
-        hub.step(alloc, &put(alloc, first.saturating_add(number)));
+        server.step(alloc, &draw(alloc, number as usize)?);
+        server.step(alloc, &put(alloc, first.saturating_add(number)));
     }
     Ok(())
 }
 
-fn time_commits(rt: &HostRuntime, hub: &mut Hub, rows: u32, queries: u32, first: u32) -> anyhow::Result<()> {
+fn time_commits<L: Ledger>(rt: &HostRuntime, server: &mut Server<L>, rows: u32, queries: u32, first: u32) -> anyhow::Result<()> {
     let start = Instant::now(rt)?;
-    commit(rt.alloc(), hub, first, 1_000)?;
+    commit(rt.alloc(), server, first, 1_000)?;
     let spent = start.elapsed(rt)?.as_micros() / 1_000;
     println!(rt; "a commit over {rows} rows and {queries} finished queries: {spent} us")?;
     Ok(())
 }
 
-fn time_queries(rt: &HostRuntime, hub: &mut Hub, rows: u32) -> anyhow::Result<()> {
+fn time_queries<L: Ledger>(rt: &HostRuntime, server: &mut Server<L>, rows: u32) -> anyhow::Result<()> {
     let alloc = rt.alloc();
     let event = create(alloc, 100)?;
     let stop = Event::Stop { client: 0, number: 100 };
     let start = Instant::now(rt)?;
     for _ in 0..10 {
-        hub.step(alloc, &event);
-        hub.step(alloc, &stop);
+        server.step(alloc, &event);
+        server.step(alloc, &stop);
     }
     let spent = start.elapsed(rt)?.as_micros() / 10;
     println!(rt; "a create and its stop over {rows} rows: {spent} us")?;
     Ok(())
 }
 
-fn time(rt: &HostRuntime, rows: u32) -> anyhow::Result<()> {
+fn time_counted<L: Ledger>(rt: &HostRuntime, rows: u32, blank: Blank) -> anyhow::Result<()>
+    requires name { blank.name ≡ L.name }
+    requires parts { (blank.parts ≡ L.parts) × (0 < L.parts) }
+{
     let alloc = rt.alloc();
-    let mut hub = Hub::new(alloc, Limits::STANDARD);
-    fill(alloc, &mut hub, rows)?;
+    let mut server = Server {
+        hub: Hub::new(alloc, Limits::STANDARD),
+        steps: Steps::<L>::open(blank),
+    };
+    fill(alloc, &mut server, rows)?;
     let first = rows.saturating_add(1);
-    time_commits(rt, &mut hub, rows, 0, first)?;
-    time_queries(rt, &mut hub, rows)?;
-    finish(alloc, &mut hub, 0, 8)?;
-    time_commits(rt, &mut hub, rows, 8, first.saturating_add(1_000))?;
-    finish(alloc, &mut hub, 8, 64)?;
-    time_commits(rt, &mut hub, rows, 64, first.saturating_add(2_000))?;
+    time_commits(rt, &mut server, rows, 0, first)?;
+    time_queries(rt, &mut server, rows)?;
+    finish(alloc, &mut server, 0, 8)?;
+    time_commits(rt, &mut server, rows, 8, first.saturating_add(1_000))?;
+    finish(alloc, &mut server, 8, 64)?;
+    time_commits(rt, &mut server, rows, 64, first.saturating_add(2_000))?;
     Ok(())
+}
+
+fn time(rt: &HostRuntime, rows: u32) -> anyhow::Result<()> {
+    time_counted::<Brand>(rt, rows, Blank::new(1))
 }
 
 fn main(rt: HostRuntime) -> anyhow::Result<()> {
@@ -125,10 +152,19 @@ fn main(rt: HostRuntime) -> anyhow::Result<()> {
 }
 """
 
+# The counter of row reads is named by the one blank that it is made of.
+PROOFS = {
+    "time/Invariants.antt": """use Rattle.speed.proofs.time.Given as goal
+
+abbrev pub ghosts-time_counted : goal.ghosts-time_counted
+ghosts-time_counted a = record { name = a.blank.name; parts = 1 }
+""",
+}
+
 
 def main():
     with tempfile.TemporaryDirectory() as folder:
-        program = programs.build(pathlib.Path(folder), USED, PROGRAM)
+        program = programs.build(pathlib.Path(folder), USED, PROGRAM, PROOFS)
         subprocess.run([program] if "small" in sys.argv else [program, "large"], check=True)
 
 

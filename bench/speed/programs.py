@@ -41,9 +41,9 @@ def write(top, used, program, proofs=None):
     return folder
 
 
-def build(top, used, program):
+def build(top, used, program, proofs=None):
     """Writes the program over these crates, builds it, and answers its file."""
-    folder = write(top, used, program)
+    folder = write(top, used, program, proofs)
     subprocess.run(["rt", "run"], cwd=folder, check=True, stdout=subprocess.DEVNULL)
     return folder / "out" / "speed"
 

@@ -108,8 +108,7 @@ fn timed<C: Core, R: Threads + Wait + Sync + Clock>(rt: &R, alloc: Global, core:
     Ok((journal.len(), spent))
 }
 
-fn time_acts(rt: &HostRuntime, threads: u8) -> anyhow::Result<()> {
-    let alloc = rt.alloc();
+fn time_acts<R: Threads + Wait + Sync + Clock + Print>(rt: &R, alloc: Global, threads: u8) -> anyhow::Result<()> {
     let Ok(path) = Path::read(alloc, "a.txt") else {
         return Ok(());
     };
@@ -120,7 +119,7 @@ fn time_acts(rt: &HostRuntime, threads: u8) -> anyhow::Result<()> {
 
 fn main(rt: HostRuntime) -> anyhow::Result<()> {
     for threads in [1, 2, 4, 8, 1, 2, 4, 8, 1, 2, 4, 8] {
-        time_acts(&rt, threads)?;
+        time_acts(&rt, rt.alloc(), threads)?;
     }
     Ok(())
 }

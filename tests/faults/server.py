@@ -23,14 +23,18 @@ EXAMPLES = ["readme/first-run", "parts/of-two-hits"]
 PROGRAM = r"""//! Sends events to servers, each again where it is answered `Memory`, and prints their journals.
 #![tactic(auto)]
 
+ghost use Rattle.std.specs.Prelude.{◌≡◌, ◌<◌};
+
 use md_expr::read;
 use md_hub::Hub;
 use md_machine::{Batch, Event, Reply, Spec};
 use md_render::push_entry;
 use md_value::{Attrs, Name, Path, Text, Value};
-use md_world::{Change, Limits, Order};
+use md_world::{Change, Limits, Order, Steps};
 use std::alloc::{AllocError, Global};
 use std::io;
+use std::marker::Brand;
+use std::sync::ledger::{Blank, Ledger};
 
 fn path(alloc: Global, text: &str) -> Result<Path, AllocError> {
     match Path::read(alloc, text) {
@@ -131,26 +135,45 @@ fn parts(alloc: Global) -> Result<Vec<Event>, AllocError> {
     Ok(events)
 }
 
-fn answered(rt: &impl Eprint, alloc: Global, hub: &mut Hub, event: &Event) -> io::Result<Reply> {
-    match hub.step(alloc, event) {
+fn answered<L: Ledger>(
+    rt: &impl Eprint,
+    alloc: Global,
+    hub: &mut Hub,
+    event: &Event,
+    steps: &mut Steps<L>,
+) -> io::Result<Reply> {
+    match hub.step(alloc, event, steps) {
         Reply::Memory => {
             eprintln!(rt; "again")?;
-            Ok(hub.step(alloc, event))
+            Ok(hub.step(alloc, event, steps))
         }
         reply => Ok(reply),
     }
 }
 
-fn run(rt: &impl Eprint, alloc: Global, events: &[Event]) -> io::Result<String> {
+fn run_counted<L: Ledger, R: Eprint>(
+    rt: &R,
+    alloc: Global,
+    events: &[Event],
+    blank: Blank,
+) -> io::Result<String>
+    requires name { blank.name ≡ L.name }
+    requires parts { (blank.parts ≡ L.parts) × (0 < L.parts) }
+{
+    let mut steps = Steps::<L>::open(blank);
     let mut hub = Hub::new(alloc, Limits::STANDARD);
     let mut text = String::new(alloc);
     let mut place = 1u64;
     for event in events {
-        let reply = answered(rt, alloc, &mut hub, event)?;
+        let reply = answered(rt, alloc, &mut hub, event, &mut steps)?;
         push_entry(&mut text, place, event, &reply)?;
         place = place.saturating_add(1);
     }
     Ok(text)
+}
+
+fn run<R: Eprint>(rt: &R, alloc: Global, events: &[Event]) -> io::Result<String> {
+    run_counted::<Brand, R>(rt, alloc, events, Blank::new(1))
 }
 
 fn main(rt: HostRuntime) -> anyhow::Result<()> {
@@ -163,11 +186,21 @@ fn main(rt: HostRuntime) -> anyhow::Result<()> {
 """
 
 
+# The counter of row reads is named by the one blank that it is made of.
+PROOFS = {
+    "run/Invariants.antt": """use Rattle.speed.proofs.run.Given as goal
+
+abbrev pub ghosts-run_counted : goal.ghosts-run_counted
+ghosts-run_counted g a = record { name = a.blank.name; parts = 1 }
+""",
+}
+
+
 def results():
     """A fault or None for each call that is refused."""
     journal = b"".join(Example(name).wanted.out for name in EXAMPLES)
     with tempfile.TemporaryDirectory() as folder:
-        program = programs.build(pathlib.Path(folder), USED, PROGRAM)
+        program = programs.build(pathlib.Path(folder), USED, PROGRAM, PROOFS)
         again = 0
         with refusals.Shim() as shim:
             whole, calls = shim.counted([program])
