@@ -45,10 +45,12 @@ loop-place-preserved g c =
     let same : c.in-Some.row.now ≡ r.0 = some_inj c.in-Some.row.now r.0 (read ∙ r.2) in
     let items : c.push.new.self.items ≡ c.loop-place.rows.items ++ c.in-Some.row ∷ [] = search rules in
     let read_before = c.loop-place.invariant.1 in
-    let one = c.row_at.ensures.cost in
-    (ap rows_of items ∙ map-append (λ (hit : Bor Row). hit.now) c.loop-place.rows.items (c.in-Some.row ∷ [])
-    ∙ ap (λ xs. xs ++ c.in-Some.row.now ∷ []) c.loop-place.invariant.0
-    ∙ ap (λ (x : Row). take j table ++ x ∷ []) same ∙ sym (one_more table j r.0 r.1), omega arith)
+    let one = c.row_at.ensures.cost in (
+      ap rows_of items ∙ map-append (λ (hit : Bor Row). hit.now) c.loop-place.rows.items (c.in-Some.row ∷ [])
+          ∙ ap (λ xs. xs ++ c.in-Some.row.now ∷ []) c.loop-place.invariant.0
+          ∙ ap (λ (x : Row). take j table ++ x ∷ []) same ∙ sym (one_more table j r.0 r.1),
+      omega arith,
+    )
 
 pub returns-clause-rows : goal.returns-clause-rows
 returns-clause-rows g c =
