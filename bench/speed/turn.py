@@ -17,49 +17,58 @@ ghost use Rattle.std.specs.Thread.{IsSync, IsSend};
 
 use md_hub::Hub;
 use md_machine::{Event, Reply};
-use md_turn::{Core, Pass, Turn};
+use md_turn::{Core, JournalEntry, Pass, Turn};
 use md_value::{Copied, Path};
 use md_world::Limits;
 use std::alloc::{AllocError, Global};
 use std::sync::Wait;
 use std::thread::{Threads, join};
-use std::time::{Clock, Instant};
+use std::time::Instant;
 
 const ACTS: u64 = 800_000;
 
-fn event(alloc: Global, path: &Path, number: u64, ticket: u32) -> Result<Event, AllocError> {
+fn event(alloc: Global, path: &Path, number: u64, ticket: u32) -> Option<Event> {
     if number % 2 == 0 {
-        Ok(Event::Draw { path: path.copy(alloc)? })
+        Some(Event::Draw { path: path.copy(alloc).ok()? })
     } else {
-        Ok(Event::Close { ticket })
+        Some(Event::Close { ticket })
     }
 }
 
-// The ticket that was drawn last after one act, or 0 where there was none.
-fn act<C: Core, R: Wait>(rt: &R, alloc: Global, turn: &Turn<C>, pass: &mut Pass, path: &Path, number: u64, ticket: u32) -> u32
+// The reply to an event, if the pass may act and there is memory.
+fn reply_to<C: Core, R: Wait>(rt: &R, turn: &Turn<C>, pass: &mut Pass, event: Event) -> Option<Reply>
     requires { pass.old.id ≡ turn.now.id }
     ensures { (pass.new.id ≡ pass.old.id) × (pass.new.share ≡ pass.old.share) }
 {
-    let Ok(event) = event(alloc, path, number, ticket) else {
-        return 0;
-    };
     if pass.made() < pass.share() {
         match turn.act(rt, pass, event) {
-            Ok((_, Reply::Ticket(drawn))) => drawn,
-            _ => ticket,
+            Ok((_, reply)) => Some(reply),
+            Err(_) => None,
         }
     } else {
-        0
+        None
     }
 }
 
-fn act_often<C: Core, R: Wait>(rt: &R, alloc: Global, turn: &Turn<C>, pass: &mut Pass, path: &Path, acts: u64)
+fn drawn(reply: Option<Reply>, ticket: u32) -> u32 {
+    match reply {
+        Some(Reply::Ticket(number)) => number,
+        _ => ticket,
+    }
+}
+
+fn act_often<C: Core, R: Wait>(rt: &R, alloc: Global, turn: &Turn<C>, pass: &mut Pass, acts: u64)
     requires { pass.old.id ≡ turn.now.id }
     ensures { (pass.new.id ≡ pass.old.id) × (pass.new.share ≡ pass.old.share) }
 {
-    let mut ticket = 0;
+    let Ok(path) = Path::read(alloc, "a.txt") else {
+        return;
+    };
+    let mut ticket = 0u32;
     for number in 0..acts {
-        ticket = act(rt, alloc, turn, pass, path, number, ticket);
+        if let Some(event) = event(alloc, &path, number, ticket) {
+            ticket = drawn(reply_to(rt, turn, pass, event), ticket);
+        }
     }
 }
 
@@ -73,13 +82,13 @@ fn split_half<C: Core>(turn: &Turn<C>, pass: &mut Pass) -> Pass
 }
 
 #[cycle(threads)]
-fn act_by_threads<C: Core, R: Threads + Wait + Sync>(rt: &R, alloc: Global, turn: &Turn<C>, mut pass: Pass, path: &Path, threads: u8, acts: u64) -> Pass
+fn act_by_threads<C: Core, R: Threads + Wait + Sync>(rt: &R, alloc: Global, turn: &Turn<C>, mut pass: Pass, threads: u8, acts: u64) -> Pass
     requires sends { IsSend C.row × IsSync R.row }
     requires turn { pass.id ≡ turn.now.id }
     ensures { (result.id ≡ pass.id) × (result.share ≡ pass.share) }
 {
     if threads <= 1 {
-        act_often(rt, alloc, turn, &mut pass, path, acts);
+        act_often(rt, alloc, turn, &mut pass, acts);
         return pass;
     }
     let half = threads / 2;
@@ -88,45 +97,89 @@ fn act_by_threads<C: Core, R: Threads + Wait + Sync>(rt: &R, alloc: Global, turn
     let lower = move || -> Pass
         requires { IsSend C.row × IsSync R.row × (pass.id ≡ turn.now.id) }
         ensures { (result.id ≡ pass.id) × (result.share ≡ pass.share) }
-    { act_by_threads(rt, alloc, turn, pass, path, half, acts) };
+    { act_by_threads(rt, alloc, turn, pass, half, acts) };
     let upper = move || -> Pass
         requires { IsSend C.row × IsSync R.row × (other.id ≡ turn.now.id) }
         ensures { (result.id ≡ other.id) × (result.share ≡ other.share) }
-    { act_by_threads(rt, alloc, turn, other, path, rest, acts) };
+    { act_by_threads(rt, alloc, turn, other, rest, acts) };
     let (mut done, there) = join(rt, lower, upper);
     turn.join(&mut done, there);
     done
 }
 
-// How many entries so many threads make, and in how many microseconds.
-fn timed<C: Core, R: Threads + Wait + Sync + Clock>(rt: &R, alloc: Global, core: C, path: &Path, threads: u8) -> anyhow::Result<(usize, u128)> {
+// The journal of the acts of so many threads.
+fn journal_of<C: Core, R: Threads + Wait + Sync>(rt: &R, alloc: Global, core: C, threads: u8, acts: u64) -> Result<Vec<JournalEntry>, AllocError> {
     let (turn, pass) = Turn::new(alloc, core)?;
-    let start = Instant::now(rt)?;
-    let pass = act_by_threads(rt, alloc, &turn, pass, path, threads, ACTS / u64::from(threads.max(1)));
-    let spent = start.elapsed(rt)?.as_micros().max(1);
-    let (_, journal) = turn.close(vec![in alloc; pass]?);
-    Ok((journal.len(), spent))
+    let pass = act_by_threads(rt, alloc, &turn, pass, threads, acts);
+    let passes = vec![in alloc; pass]?;
+    let (_, journal) = turn.close(passes);
+    Ok(journal)
 }
 
-fn time_acts<R: Threads + Wait + Sync + Clock + Print>(rt: &R, alloc: Global, threads: u8) -> anyhow::Result<()> {
-    let Ok(path) = Path::read(alloc, "a.txt") else {
-        return Ok(());
-    };
-    let (entries, spent) = timed(rt, alloc, Hub::new(alloc, Limits::STANDARD), &path, threads)?;
-    println!(rt; "turn, {threads} threads: {entries} entries, {} acts in a second", entries as u128 * 1_000_000 / spent)?;
-    Ok(())
+fn acts_on_hub<R: Threads + Wait + Sync>(rt: &R, alloc: Global, threads: u8) -> Result<Vec<JournalEntry>, AllocError> {
+    let acts = ACTS / u64::from(threads.max(1));
+    journal_of(rt, alloc, Hub::new(alloc, Limits::STANDARD), threads, acts)
 }
 
 fn main(rt: HostRuntime) -> anyhow::Result<()> {
     for threads in [1, 2, 4, 8, 1, 2, 4, 8, 1, 2, 4, 8] {
-        time_acts(&rt, rt.alloc(), threads)?;
+        let start = Instant::now(&rt)?;
+        let journal = acts_on_hub(&rt, rt.alloc(), threads)?;
+        let spent = start.elapsed(&rt)?.as_micros().max(1);
+        let entries = journal.len();
+        println!(rt; "turn, {threads} threads: {entries} entries, {} acts in a second", entries as u128 * 1_000_000 / spent)?;
     }
     Ok(())
 }
 """
 
+PROOFS = {
+    "+threads/Invariants.antt": """use Rattle.std.proofs.Common.{◌+◌, ◌*◌}
+use Rattle.speed.proofs.+threads.Given as goal
+
+abbrev pub decreases-act_by_threads : goal.decreases-act_by_threads
+decreases-act_by_threads g l = 2 * l.threads
+
+abbrev pub decreases-lower : goal.decreases-lower
+decreases-lower g l = 2 * l.half + 1
+
+abbrev pub decreases-upper : goal.decreases-upper
+decreases-upper g l = 2 * l.rest + 1
+""",
+    "+threads/Answers.antt": """use denote.Param.{param}
+use denote.Param.Send.{sendable}
+use Rattle.md_turn.proofs.Crossing.{turn_syncs}
+use Rattle.md_turn.proofs.pass.Pass.TheSendSync as pass_sent
+use Rattle.std.proofs.alloc.Global.TheSendSync as heap_sent
+use Rattle.speed.proofs.+threads.Goals as goal
+
+pub join-done-requires-send-F : goal.join-done-requires-send-F
+join-done-requires-send-F g t c κs within =
+    search (sendable, turn_syncs (param 0 g.row.C) g.C.Core c.requires.sends.0, pass_sent.the_send, heap_sent.the_field_send, c.requires.sends.1) depth 20
+""",
+    "act_often/Invariants.antt": """use Rattle.std.proofs.Common.{◌≡◌}
+use Rattle.speed.proofs.act_often.Given as goal
+
+abbrev pub invariant-loop-number : goal.invariant-loop-number
+invariant-loop-number g l = (l.pass.id ≡ l.initial.pass.id) × (l.pass.share ≡ l.initial.pass.share)
+""",
+    "journal_of/Answers.antt": """use denote.Param.Send.{sendable}
+use Rattle.speed.proofs.journal_of.Goals as goal
+
+pub act_by_threads-pass-requires-clause-sends : goal.act_by_threads-pass-requires-clause-sends
+act_by_threads-pass-requires-clause-sends g c κs within = (search (sendable, c.type_bounds.send-C) depth 20, search (sendable, c.type_bounds.sync-R) depth 20)
+""",
+    "acts_on_hub/Answers.antt": """use denote.Param.Send.{sendable}
+use Rattle.md_hub.proofs.Crossing.{hub_sends}
+use Rattle.speed.proofs.acts_on_hub.Goals as goal
+
+pub journal_of-requires-send-C : goal.journal_of-requires-send-C
+journal_of-requires-send-C g c κs within = search (sendable, hub_sends) depth 20
+""",
+}
+
 PLAIN = """use std::sync::Mutex;
-use std::time::{Clock, Instant};
+use std::time::Instant;
 
 const ACTS: u64 = 800_000;
 
@@ -223,22 +276,6 @@ fn main() {
     }
 }
 """
-
-
-PROOFS = {
-    "+threads/Invariants.antt": """use Rattle.std.proofs.Common.{◌+◌, ◌*◌}
-use Rattle.speed.proofs.+threads.Given as goal
-
-abbrev pub decreases-act_by_threads : goal.decreases-act_by_threads
-decreases-act_by_threads g l = 2 * l.threads
-
-abbrev pub decreases-lower : goal.decreases-lower
-decreases-lower g l = 2 * l.half + 1
-
-abbrev pub decreases-upper : goal.decreases-upper
-decreases-upper g l = 2 * l.rest + 1
-""",
-}
 
 
 def main():
