@@ -21,8 +21,9 @@ def below(used, lines):
     return found
 
 
-def write(top, used, program):
-    """Writes the program `speed` over these crates, beside copies of them, and answers its folder."""
+def write(top, used, program, proofs=None):
+    """Writes the program `speed` over these crates, beside copies of them, and answers its folder. `proofs` are the texts of
+    its proof files by their paths below `proofs/`."""
     lines = (ROOT / "crates.txt").read_text().splitlines()
     crates = below(used, lines)
     for crate in crates:
@@ -33,6 +34,10 @@ def write(top, used, program):
     folder = top / "crates" / "speed"
     (folder / "src").mkdir(parents=True)
     (folder / "src" / "main.rt").write_text(program)
+    for name, text in (proofs or {}).items():
+        file = folder / "proofs" / name
+        file.parent.mkdir(parents=True, exist_ok=True)
+        file.write_text(text)
     return folder
 
 
@@ -43,9 +48,9 @@ def build(top, used, program):
     return folder / "out" / "speed"
 
 
-def run(top, used, program):
+def run(top, used, program, proofs=None):
     """Writes the program over these crates, builds it and runs it."""
-    subprocess.run(["rt", "run"], cwd=write(top, used, program), check=True)
+    subprocess.run(["rt", "run"], cwd=write(top, used, program, proofs), check=True)
 
 
 def run_plain(top, source):
@@ -56,9 +61,9 @@ def run_plain(top, source):
     subprocess.run([top / "plain"], check=True)
 
 
-def compare(used, program, plain):
+def compare(used, program, plain, proofs=None):
     """Runs a plain Rust program and then the program over these crates, in a folder of their own."""
     with tempfile.TemporaryDirectory() as folder:
         top = pathlib.Path(folder)
         run_plain(top, plain)
-        run(top, used, program)
+        run(top, used, program, proofs)
