@@ -1,8 +1,8 @@
 #!/usr/bin/env python3
 """Times the server's commits: builds a program over md_hub in a temporary folder with `rt`, and runs it.
 
-Prints, for 1,000, 100,000 and 1,000,000 rows and for 0, 8 and 64 finished queries that no row passes, the microseconds of a
-commit that puts a path again, with its ticket drawn before; and the microseconds of a `Create` and its `Stop`. The argument
+Prints, for 1,000, 100,000 and 1,000,000 rows and for 0, 8 and 64 finished queries that no row passes, the nanoseconds of a
+commit that puts a path again, whose ticket was drawn before; and the nanoseconds of a `Create` and its `Stop`. The argument
 `small` leaves the million rows out. Needs `rt` in the path, Python 3, a gigabyte of memory, and some minutes."""
 
 import pathlib
@@ -29,6 +29,9 @@ use std::env;
 use std::marker::Brand;
 use std::sync::ledger::{Blank, Ledger};
 use std::time::Instant;
+
+// How many paths are put again in each measure.
+const COMMITS: u32 = 1_000;
 
 // A server with a counter of the rows that it reads.
 #[derive(Drop)]
@@ -86,19 +89,26 @@ fn finish<L: Ledger>(alloc: Global, server: &mut Server<L>, from: u32, to: u32) 
     Ok(())
 }
 
-fn commit<L: Ledger>(alloc: Global, server: &mut Server<L>, first: u32, count: u32) -> anyhow::Result<()> {
+// Draws tickets for so many paths that have rows.
+fn draw_again<L: Ledger>(alloc: Global, server: &mut Server<L>, count: u32) -> anyhow::Result<()> {
     for number in 0..count {
         server.step(alloc, &draw(alloc, number as usize)?);
-        server.step(alloc, &put(alloc, first.saturating_add(number)));
     }
     Ok(())
 }
 
+fn commit<L: Ledger>(alloc: Global, server: &mut Server<L>, first: u32, count: u32) {
+    for number in 0..count {
+        server.step(alloc, &put(alloc, first.saturating_add(number)));
+    }
+}
+
 fn time_commits<L: Ledger>(rt: &HostRuntime, server: &mut Server<L>, rows: u32, queries: u32, first: u32) -> anyhow::Result<()> {
+    draw_again(rt.alloc(), server, COMMITS)?;
     let start = Instant::now(rt)?;
-    commit(rt.alloc(), server, first, 1_000)?;
-    let spent = start.elapsed(rt)?.as_micros() / 1_000;
-    println!(rt; "a commit over {rows} rows and {queries} finished queries: {spent} us")?;
+    commit(rt.alloc(), server, first, COMMITS);
+    let spent = start.elapsed(rt)?.as_nanos() / u128::from(COMMITS);
+    println!(rt; "a commit over {rows} rows and {queries} finished queries: {spent} ns")?;
     Ok(())
 }
 
@@ -107,12 +117,12 @@ fn time_queries<L: Ledger>(rt: &HostRuntime, server: &mut Server<L>, rows: u32) 
     let event = create(alloc, 100)?;
     let stop = Event::Stop { client: 0, number: 100 };
     let start = Instant::now(rt)?;
-    for _ in 0..10 {
+    for _ in 0..1_000u32 {
         server.step(alloc, &event);
         server.step(alloc, &stop);
     }
-    let spent = start.elapsed(rt)?.as_micros() / 10;
-    println!(rt; "a create and its stop over {rows} rows: {spent} us")?;
+    let spent = start.elapsed(rt)?.as_nanos() / 1_000;
+    println!(rt; "a create and its stop over {rows} rows: {spent} ns")?;
     Ok(())
 }
 
@@ -130,9 +140,9 @@ fn time_counted<L: Ledger>(rt: &HostRuntime, rows: u32, blank: Blank) -> anyhow:
     time_commits(rt, &mut server, rows, 0, first)?;
     time_queries(rt, &mut server, rows)?;
     finish(alloc, &mut server, 0, 8)?;
-    time_commits(rt, &mut server, rows, 8, first.saturating_add(1_000))?;
+    time_commits(rt, &mut server, rows, 8, first.saturating_add(COMMITS))?;
     finish(alloc, &mut server, 8, 64)?;
-    time_commits(rt, &mut server, rows, 64, first.saturating_add(2_000))?;
+    time_commits(rt, &mut server, rows, 64, first.saturating_add(COMMITS * 2))?;
     Ok(())
 }
 
