@@ -1,5 +1,5 @@
 use denote.Param.Send.{sendable}
-use Rattle.md_tests.proofs.Sent.{sparing_sends}
+use Rattle.md_tests.proofs.turns.act_on_sparing.Answers.{sparing_sends}
 use Rattle.md_tests.proofs.turns.a_refused_act_has_no_entry.Goals as goal
 
 pub draw_and_vacuum-requires-send-C : goal.draw_and_vacuum-requires-send-C
