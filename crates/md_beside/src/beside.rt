@@ -24,7 +24,7 @@ use std::alloc::{AllocError, Global};
 use std::sync::Wait;
 use std::thread::Threads;
 
-/// What a run of a script by workers and clients comes to.
+/// What a run of a script by workers and clients leaves.
 #[derive(Drop)]
 pub struct Beside {
     /// The jobs, in the order of the lines.
@@ -48,7 +48,7 @@ fn run_jobs<R: Threads + Wait + Sync, G: Gate + Sync>(
     requires moment { IsMoment start.now.moment }
     requires workers { (0 < workers) × (workers ≤ 64) }
     ensures merged { IfOk result (λ r. IsMerged (map (job_in jobs.now.offset) jobs.now.jobs) (asks_in start.now.moment start.now.offset lines.now) r.1.items) }
-    ensures last { IfOk result (λ r. r.0 ≡ (run STANDARD (events_in r.1.items)).last) }
+    ensures last { IfOk result (λ r. r.0.state ≡ (run STANDARD (events_in r.1.items)).last) }
 {
     let clients = read_clients(alloc, start, lines)?;
     run_crew(rt, alloc, jobs, clients, workers, gate)
@@ -70,7 +70,7 @@ pub fn run_beside<R: Threads + Wait + Sync, T: Tree, G: Gate + Sync>(
     requires few { length lines.now ≤ most_lines }
     requires moment { IsMoment start.now.moment }
     requires workers { (0 < workers) × (workers ≤ 64) }
-    ensures runs { IfOk result (λ r. RunsBeside (T.content tree.old) (T.faults tree.old) (T.faults tree.new) start.now.moment start.now.offset lines.now r.jobs.jobs r.hub r.journal.items) }
+    ensures runs { IfOk result (λ r. RunsBeside (T.content tree.old) (T.faults tree.old) (T.faults tree.new) start.now.moment start.now.offset lines.now r.jobs.jobs r.hub.state r.journal.items) }
     ensures offset { IfOk result (λ r. r.jobs.offset ≡ start.now.offset) }
     // Also where memory runs out, some of the first of the imported files were asked for in turn, or all, and no others.
     ensures so_far { InTurnSoFar (IsGiven start.now.offset (T.content tree.old)) (T.faults tree.old) (T.faults tree.new) lines.now }

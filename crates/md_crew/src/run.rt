@@ -42,8 +42,8 @@ fn run_with<R: Threads + Wait + Sync, G: Gate + Sync>(
     requires claims { (claims.numbers ≡ length jobs.now.jobs) × (length jobs.now.jobs < 4294967296) }
     requires workers { (0 < workers) × (workers ≤ 64) }
     requires clients { (length clients.items ≤ 256) × All (λ c. length c.events ≤ actor_share) clients.items }
-    ensures run { IfOk result (λ r. (asked : List Event) → Ask asked clients.items → IsRun (map (job_in jobs.now.offset) jobs.now.jobs) asked clients.items workers r.0 r.1.items) }
-    ensures last { IfOk result (λ r. r.0 ≡ (run STANDARD (events_in r.1.items)).last) }
+    ensures run { IfOk result (λ r. (asked : List Event) → Ask asked clients.items → IsRun (map (job_in jobs.now.offset) jobs.now.jobs) asked clients.items workers r.0.state r.1.items) }
+    ensures last { IfOk result (λ r. r.0.state ≡ (run STANDARD (events_in r.1.items)).last) }
 {
     let actors = ready(
         rt, alloc, &turn, &claims, jobs, gate, &mut first, &mut seat, clients, workers,
@@ -79,7 +79,7 @@ pub fn run_crew<R: Threads + Wait + Sync, G: Gate + Sync>(
     requires workers { (0 < workers) × (workers ≤ 64) }
     requires clients { (length clients.items ≤ 256) × All (λ c. length c.events ≤ actor_share) clients.items }
     ensures merged { IfOk result (λ r. (asked : List Event) → Ask asked clients.items → IsMerged (map (job_in jobs.now.offset) jobs.now.jobs) asked r.1.items) }
-    ensures last { IfOk result (λ r. r.0 ≡ (run STANDARD (events_in r.1.items)).last) }
+    ensures last { IfOk result (λ r. r.0.state ≡ (run STANDARD (events_in r.1.items)).last) }
 {
     let hub = Hub::new(alloc, Limits::STANDARD);
     let (turn, first) = Turn::new(alloc, hub)?;

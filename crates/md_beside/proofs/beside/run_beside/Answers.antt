@@ -14,4 +14,4 @@ returns-clause-runs g c =
     let journal = c.in_ok-hub.journal.items in
     let made = c.in_ok-jobs.ensures in
     let merged = subst (λ (o : ℤ). IsMerged (map (job_in o) jobs) (asks_in now offset lines) journal) made.offset c.in_ok-hub.ensures.merged in
-    runs_so _ _ _ now offset lines jobs c.in_ok-hub.hub journal (omega (arith, made.few, c.requires.few)) made.jobs merged c.in_ok-hub.ensures.last
+    runs_so _ _ _ now offset lines jobs c.in_ok-hub.hub.state journal (omega (arith, made.few, c.requires.few)) made.jobs merged c.in_ok-hub.ensures.last

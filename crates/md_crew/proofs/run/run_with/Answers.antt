@@ -47,11 +47,11 @@ returns-clause-run g c =
     let ps = c.ready.new.first ∷ map (λ (e : Ended). e.pass) c.in_ok-ended.ended.items in
     ok_all c.close_all.result _ _ _ _
     (λ refused once r closed asked ask.
-    has_run c.args.turn.id jobs c.args.clients.items c.args.workers c.args.claims c.args.first c.ready.new.first c.args.seat c.ready.new.seat c.in_ok-actors.actors.items c.in_ok-actors.ensures c.requires.turn.0 c.in_ok-ended.ended.items c.in_ok-ended.ensures c.requires.workers.0 c.requires.new.0 c.requires.new.2 refused once r.0 r.1.items
-    (subst (λ (o : State). passes.Ended o ps r.0 r.1.items) c.requires.turn.2 closed) asked ask)
+    has_run c.args.turn.id jobs c.args.clients.items c.args.workers c.args.claims c.args.first c.ready.new.first c.args.seat c.ready.new.seat c.in_ok-actors.actors.items c.in_ok-actors.ensures c.requires.turn.0 c.in_ok-ended.ended.items c.in_ok-ended.ensures c.requires.workers.0 c.requires.new.0 c.requires.new.2 refused once r.0.state r.1.items
+    (subst (λ (o : State). passes.Ended o ps r.0.state r.1.items) c.requires.turn.2 closed) asked ask)
     c.close_all.ensures.whole c.close_all.ensures.drawn c.close_all.ensures.ended
 
 pub returns-clause-last : goal.returns-clause-last
 returns-clause-last g c =
     let ps = c.ready.new.first ∷ map (λ (e : Ended). e.pass) c.in_ok-ended.ended.items in
-    IfOk-weaker c.close_all.result _ _ (λ r closed. (subst (λ (o : State). passes.Ended o ps r.0 r.1.items) c.requires.turn.2 closed).state_is) c.close_all.ensures.ended
+    IfOk-weaker c.close_all.result _ _ (λ r closed. (subst (λ (o : State). passes.Ended o ps r.0.state r.1.items) c.requires.turn.2 closed).state_is) c.close_all.ensures.ended
