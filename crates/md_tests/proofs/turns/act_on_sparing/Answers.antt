@@ -4,8 +4,7 @@ use Rattle.md_hub.proofs.Crossing.{hub_sends}
 use Rattle.md_tests.specs.contracts.sparing.Sparing as sparing
 use Rattle.md_tests.proofs.turns.act_on_sparing.Goals as goal
 
--- a server that memory is refused to may go from thread to thread
-pub sparing_sends : IsSend sparing.the_row
+sparing_sends : IsSend sparing.the_row
 sparing_sends = recorded_send (sparing.the_field).row _ _ (sparing.the_type).to_one (struct_send (struct.shape sparing.the_type) (hub_sends, (plain_send _ _ _ _ _, tt)))
 
 pub acts_of-requires-send-C : goal.acts_of-requires-send-C
