@@ -1,0 +1,4 @@
+pub mod Kinds
+pub mod Pendings
+pub mod Listed
+pub mod Laws

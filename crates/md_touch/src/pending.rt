@@ -1,0 +1,158 @@
+// The pending difference of one query.
+ghost use Rattle.std.specs.Prelude.{◌≡◌, ◌+◌, ◌≤◌, ℕ, List, [], false, true, OnErr, IfOk, is_some, length};
+ghost use Rattle.std.specs.Option.{option_map};
+ghost use Rattle.md_match.specs.Conditions.{Condition};
+ghost use Rattle.md_world.specs.declared.Row.{Row as OneRow};
+ghost use Rattle.md_world.specs.Tables.{IsTable};
+ghost use Rattle.md_world.specs.Differences.{items_of};
+ghost use Rattle.md_machine.specs.Answers.{notice_of};
+ghost use Rattle.md_store.specs.Places.{Place, table_at};
+ghost use Rattle.md_touch.specs.Kinds.{kind_at, kind_for};
+ghost use Rattle.md_touch.specs.Listed.{reads_of};
+ghost use Rattle.md_touch.specs.Pendings.{kind_after, AreWithin, answers_differ, IsPending};
+
+use crate::kind::{Kind, kind_for};
+use crate::listed::{removed_in_order, rows_in_order};
+use indexmap::IndexMap;
+use md_match::Filter;
+use md_store::Store;
+use md_value::Items;
+use md_world::{Notice, Row, Steps};
+use std::alloc::{AllocError, Global};
+use std::marker::Model;
+use std::sync::ledger::Ledger;
+
+/// A change of a pending difference at one place, with all the memory that it needs. Contracts see the place and the list that
+/// it is from then on in.
+#[derive(Debug, Drop)]
+pub struct Touch {
+    place: u32,
+    kind: Option<Kind>,
+}
+
+impl Model for Touch {
+    ghost use Rattle.md_touch.specs.Pendings.{Touched};
+
+    ghost Value = { Touched };
+
+    ghost view = { λ t. record { place = t.place; kind = t.kind } };
+}
+
+/// The pending difference of a query between its base and the newest version. Contracts see the places that are in one of its
+/// three lists, and whether one more takes no memory.
+#[derive(Drop)]
+pub struct Pending {
+    alloc: Global,
+    kinds: IndexMap<u32, Kind>,
+    room: bool,
+}
+
+impl Model for Pending {
+    ghost use Rattle.std.specs.Prelude.{◌≡◌, ◌<◌, true, nat_eq};
+    ghost use Rattle.indexmap.specs.IndexMap.{spare, IsUnique};
+    ghost use Rattle.md_touch.specs.Pendings.{Pended};
+
+    ghost Value = { Pended };
+
+    ghost view = { λ p. record { kinds = p.kinds.entries; room = p.room } };
+
+    ghost invariant = { λ p. (p.room ≡ true → 0 < spare p.kinds) × IsUnique nat_eq p.kinds };
+}
+
+impl Pending {
+    /// No difference. Takes no memory.
+    pub fn new(alloc: Global) -> Pending
+        ensures { result ≡ record { kinds = []; room = false } }
+    {
+        Pending {
+            alloc,
+            kinds: IndexMap::new(alloc),
+            room: false,
+        }
+    }
+
+    /// The change of a commit at the place of its path, by the row that the path has on the base and the one that it gets. Takes
+    /// all the memory of `apply`, and fails only where memory runs out.
+    pub fn ready(
+        &mut self,
+        place: u32,
+        base: Option<&Row>,
+        after: Option<&Row>,
+        filter: &Filter,
+    ) -> Result<Touch, AllocError>
+        ensures touch { IfOk result (λ t. t ≡ record { place = place; kind = kind_for filter.entry.now (option_map (λ r. r.now) base.entry) (option_map (λ r. r.now) after.entry) }) }
+        ensures ready { IfOk result (λ t. self.new ≡ record self.old { room = is_some t.kind }) }
+        ensures err { OnErr result (self.new ≡ self.old) }
+    {
+        let kind = kind_for(self.alloc, filter, base, after)?;
+        if kind.is_some() {
+            self.kinds.reserve(1)?;
+        }
+        self.room = kind.is_some();
+        Ok(Touch { place, kind })
+    }
+
+    /// Makes a change that is ready. Cannot fail.
+    pub fn apply(&mut self, touch: Touch)
+        requires { self.old.room ≡ is_some touch.kind }
+        ensures kinds { (place : ℕ) → kind_at self.new.kinds place ≡ kind_after touch self.old.kinds place }
+        ensures room { self.new.room ≡ false }
+    {
+        self.room = false;
+        match touch.kind {
+            Some(kind) => {
+                let Ok(_) = self.kinds.insert(touch.place, kind) else {
+                    unreachable!()
+                };
+            }
+            None => {
+                self.kinds.swap_remove(&touch.place);
+            }
+        }
+    }
+
+    /// Puts no place in a list, where the base becomes the newest version. Takes no memory.
+    pub fn clear(&mut self)
+        ensures { self.new ≡ record { kinds = []; room = false } }
+    {
+        self.kinds = IndexMap::new(self.alloc);
+        self.room = false;
+    }
+
+    /// The number of its items. Takes no memory and reads no row.
+    pub fn len(&self) -> usize
+        ensures len { result ≡ length self.now.kinds }
+        // Where it is the difference between a query's answers on two tables, that is how many items these differ in.
+        ensures items { (condition : Condition) (places : List Place) (old new : List OneRow) → IsTable old → IsTable new → IsPending condition places old new self.now.kinds → result ≡ items_of (answers_differ condition old new) }
+    {
+        self.kinds.len()
+    }
+
+    /// The notice of the difference from a version to the newest one. It reads the row of each item that is added or changed.
+    /// Fails only where memory runs out.
+    pub fn notice<L: Ledger>(
+        &self,
+        from: u32,
+        to: u32,
+        store: &Store,
+        steps: &mut Steps<L>,
+    ) -> Result<Notice, AllocError>
+        requires newest { to ≡ store.now.version }
+        requires within { AreWithin (length store.now.places) self.now.kinds }
+        // Where it is the difference from an old table to the newest one, the notice is of this difference.
+        ensures notice { (condition : Condition) (old : List OneRow) → IsTable old → IsPending condition store.now.places old (table_at store.now.places to) self.now.kinds → IfOk result (λ notice. notice ≡ notice_of (answers_differ condition old (table_at store.now.places to)) from to) }
+        ensures cost { IfOk result (λ _. steps.new ≡ steps.old + reads_of self.now.kinds) }
+        ensures bound { steps.new ≤ steps.old + length self.now.kinds }
+    {
+        let added = rows_in_order(self.alloc, &self.kinds, Kind::Added, store, steps)?;
+        let changed = rows_in_order(self.alloc, &self.kinds, Kind::Changed, store, steps)?;
+        let removed = removed_in_order(self.alloc, &self.kinds, store)?;
+        Ok(Notice {
+            from,
+            to,
+            added: Items::from_vec(added),
+            changed: Items::from_vec(changed),
+            removed: Items::from_vec(removed),
+        })
+    }
+}
