@@ -169,7 +169,7 @@ all_counted ((i, Added) ∷ kinds) = let rest = all_counted kinds in omega arith
 all_counted ((i, Changed) ∷ kinds) = let rest = all_counted kinds in omega arith
 all_counted ((i, Removed) ∷ kinds) = let rest = all_counted kinds in omega arith
 
-own_from : (places : List Place) (all kinds : List (ℕ × Kind)) → ((k : ℕ) → is_some (kind_at all k) ≡ true → place_in places (path_at places k) ≡ Some k) → ((k : ℕ) → is_some (kind_at kinds k) ≡ true → is_some (kind_at all k) ≡ true) → AreOwn places kinds
+pub own_from : (places : List Place) (all kinds : List (ℕ × Kind)) → ((k : ℕ) → is_some (kind_at all k) ≡ true → place_in places (path_at places k) ≡ Some k) → ((k : ℕ) → is_some (kind_at kinds k) ≡ true → is_some (kind_at all k) ≡ true) → AreOwn places kinds
 own_from places all [] h more = tt
 own_from places all (e ∷ kinds) h more =
     let here : is_some (kind_at (e ∷ kinds) e.0) ≡ true = ap (λ b. is_some (cond b (Some e.1) (kind_at kinds e.0))) (same_number e.0 e.0 refl) in
