@@ -1,6 +1,0 @@
-use Rattle.std.proofs.Common.{◌≡◌, None, drop}
-use Rattle.md_asks.specs.Askers.{next_in}
-use Rattle.md_asks.proofs.clients.next_client.Given as goal
-
-abbrev pub invariant-loop-line : goal.invariant-loop-line
-invariant-loop-line l = next_in l.least l.best (drop l.line-index l.lines) ≡ next_in l.least None l.lines
