@@ -156,3 +156,18 @@ module _ (keys : List PathBytes) (order : List ℕ) (path : PathBytes) (sorted :
           let own : path_in keys n ≡ other = get_or_from_slice_get keys n other [] is in
           let here : is_same other path ≡ true = sym (ap (λ o. option_map_or (λ key. is_same key path) o false) is) ∙ same in
           absurd (false_true (sym (number_none keys path n e (slice_get_within keys n other is)) ∙ ap (λ (p : PathBytes). is_same p path) own ∙ here))
+
+  -- the number of any place that has the path
+  pub guessed : (n : ℕ) → has_at keys n path ≡ true → Some n ≡ number_in keys path
+  guessed n same = cases (slice_get keys n) refl
+    where
+      false_true : false ≡ true → ⊥
+      false_true h = cc
+
+      cases : (k : Option PathBytes) → slice_get keys n ≡ k → Some n ≡ number_in keys path
+      cases None is = absurd (false_true (sym (ap (λ o. option_map_or (λ key. is_same key path) o false) is) ∙ same))
+      cases (Some other) is =
+          let own : path_in keys n ≡ other = get_or_from_slice_get keys n other [] is in
+          let here : is_same other path ≡ true = sym (ap (λ o. option_map_or (λ key. is_same key path) o false) is) ∙ same in
+          let at : path_in keys n ≡ path = own ∙ same_exact other path here in
+          same_there n (subst (λ (p : PathBytes). slice_get order (prefix_len (stands_before keys p) order) ≡ Some n) at (ranked keys order n sorted.within sorted.ascend (sorted.all n (slice_get_within keys n other is)))) same

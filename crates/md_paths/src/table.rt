@@ -4,6 +4,7 @@ ghost use Rattle.std.specs.List.{prefix_len};
 ghost use Rattle.std.specs.Option.{option_map};
 ghost use Rattle.md_paths.specs.Tables.{number_in, has_at, stands_before, AreSorted};
 
+use crate::hints::Hints;
 use md_pages::SlotList;
 use md_value::Path;
 use std::alloc::{AllocError, Global};
@@ -15,6 +16,8 @@ pub struct PathTable {
     paths: Vec<Path>,
     // The numbers of the paths, in path order.
     order: SlotList,
+    // Numbers that are tried before the search, so that most paths are found in a time that does not grow.
+    hints: Hints,
 }
 
 impl Model for PathTable {
@@ -55,6 +58,20 @@ fn has_at(paths: &[Path], number: usize, path: &Path) -> bool
     }
 }
 
+// The number of a path, by a search in path order.
+fn number_by_rank(paths: &[Path], order: &SlotList, path: &Path) -> Option<usize>
+    requires { AreSorted paths.now order.now.items }
+    ensures { result ≡ number_in paths.now path.now }
+{
+    let rank = rank_of(paths, order, path);
+    let number = order.get(rank)?;
+    if has_at(paths, number, path) {
+        Some(number)
+    } else {
+        None
+    }
+}
+
 impl PathTable {
     /// No paths. Takes no memory.
     pub fn new(alloc: Global) -> PathTable
@@ -64,6 +81,7 @@ impl PathTable {
         PathTable {
             paths: Vec::new(alloc),
             order: SlotList::new(alloc),
+            hints: Hints::new(alloc),
         }
     }
 
@@ -86,13 +104,11 @@ impl PathTable {
     pub fn number_of(&self, path: &Path) -> Option<usize>
         ensures { result ≡ number_in self.now.keys path.now }
     {
-        let rank = rank_of(&self.paths, &self.order, path);
-        let number = self.order.get(rank)?;
-        if has_at(&self.paths, number, path) {
-            Some(number)
-        } else {
-            None
+        let guess = self.hints.guess(path);
+        if has_at(&self.paths, guess, path) {
+            return Some(guess);
         }
+        number_by_rank(&self.paths, &self.order, path)
     }
 
     /// The number of the path before which so many stand, by bytes.
@@ -110,7 +126,8 @@ impl PathTable {
         ensures room { OnOk result (0 < self.new.spare) }
     {
         self.paths.reserve(1)?;
-        self.order.reserve(1)
+        self.order.reserve(1)?;
+        self.hints.reserve(&self.paths)
     }
 
     /// Adds a path that is not there, for which there has to be room. Takes no memory.
@@ -121,6 +138,7 @@ impl PathTable {
     {
         let rank = rank_of(&self.paths, &self.order, &path);
         self.order.insert(rank, self.paths.len());
+        self.hints.note(&path, self.paths.len());
         let Ok(()) = self.paths.push(path) else {
             unreachable!()
         };
