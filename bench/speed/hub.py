@@ -1,9 +1,9 @@
 #!/usr/bin/env python3
 """Times the server's commits: builds a program over md_hub in a temporary folder with `rt`, and runs it.
 
-Prints, for 1,000, 100,000 and 1,000,000 rows and for 0, 8 and 64 finished queries that no row passes, the nanoseconds of a
-commit that puts a path again, whose ticket was drawn before; and the nanoseconds of a `Create` and its `Stop`. The argument
-`small` leaves the million rows out. Needs `rt` in the path, Python 3, a gigabyte of memory, and some minutes."""
+Prints, for 1,000, 100,000 and 1,000,000 rows of three attributes and for 0, 8 and 64 finished queries that no row passes, the
+nanoseconds of a commit that puts such a row again, whose ticket was drawn before: at the same 1,000 paths in each of 20 rounds,
+and at paths that no earlier round had; and the nanoseconds of a `Create` and its `Stop`. The argument `small` leaves the million rows out. Needs `rt` in the path, Python 3, two gigabytes of memory, and some minutes."""
 
 import pathlib
 import subprocess
@@ -22,7 +22,7 @@ ghost use Rattle.std.specs.Prelude.{◌≡◌, ◌<◌};
 use md_expr::read;
 use md_hub::Hub;
 use md_machine::{Batch, Event, Spec};
-use md_value::{Attrs, Path};
+use md_value::{Attrs, Name, Path, Text, Value};
 use md_world::{Change, Limits, Order, Steps};
 use std::alloc::Global;
 use std::env;
@@ -30,8 +30,12 @@ use std::marker::Brand;
 use std::sync::ledger::{Blank, Ledger};
 use std::time::Instant;
 
-// How many paths are put again in each measure.
+// How many paths are put again in a round, and how many rounds a measure has.
 const COMMITS: u32 = 1_000;
+const ROUNDS: u32 = 20;
+
+// Paths that follow one another in a round lie so many places apart.
+const APART: u64 = 7_919;
 
 // A server with a counter of the rows that it reads.
 #[derive(Drop)]
@@ -54,8 +58,30 @@ fn draw(alloc: Global, number: usize) -> anyhow::Result<Event> {
     Ok(Event::Draw { path })
 }
 
-fn put(alloc: Global, ticket: u32) -> Event {
-    Event::Commit { ticket, change: Change::Put(Attrs::new(alloc)) }
+fn set(alloc: Global, attrs: &mut Attrs, name: &str, value: Value) -> anyhow::Result<()> {
+    let Ok(name) = Name::read(alloc, name) else {
+        return Ok(());
+    };
+    let mut values = Vec::new(alloc);
+    values.push(value)?;
+    if !values.iter().any(|value| matches!(value, Value::Moment(_))) {
+        let _ = attrs.put(name, values);
+    }
+    Ok(())
+}
+
+fn attrs(alloc: Global, number: u32) -> anyhow::Result<Attrs> {
+    let mut attrs = Attrs::new(alloc);
+    let title = format!(in alloc; "The title of file {number}")?;
+    set(alloc, &mut attrs, "kMDItemTitle", Value::Text(Text::of(alloc, title.as_str())?))?;
+    set(alloc, &mut attrs, "kMDItemKind", Value::Text(Text::of(alloc, "Plain text")?))?;
+    set(alloc, &mut attrs, "kMDItemPageCount", Value::Number((number % 1_000) as i64))?;
+    Ok(attrs)
+}
+
+fn put(alloc: Global, ticket: u32) -> anyhow::Result<Event> {
+    let attrs = attrs(alloc, ticket)?;
+    Ok(Event::Commit { ticket, change: Change::Put(attrs) })
 }
 
 fn create(alloc: Global, number: u32) -> anyhow::Result<Event> {
@@ -76,7 +102,7 @@ fn create(alloc: Global, number: u32) -> anyhow::Result<Event> {
 fn fill<L: Ledger>(alloc: Global, server: &mut Server<L>, rows: u32) -> anyhow::Result<()> {
     for number in 0..rows {
         server.step(alloc, &draw(alloc, number as usize)?);
-        server.step(alloc, &put(alloc, number.saturating_add(1)));
+        server.step(alloc, &put(alloc, number.saturating_add(1))?);
     }
     Ok(())
 }
@@ -89,26 +115,58 @@ fn finish<L: Ledger>(alloc: Global, server: &mut Server<L>, from: u32, to: u32) 
     Ok(())
 }
 
-// Draws tickets for so many paths that have rows.
-fn draw_again<L: Ledger>(alloc: Global, server: &mut Server<L>, count: u32) -> anyhow::Result<()> {
-    for number in 0..count {
-        server.step(alloc, &draw(alloc, number as usize)?);
-    }
-    Ok(())
+// The commits of a measure: their first ticket, the rows that there are, and whether each round has other paths.
+#[derive(Clone, Copy)]
+struct Measure {
+    first: u32,
+    rows: u32,
+    is_wide: bool,
 }
 
-fn commit<L: Ledger>(alloc: Global, server: &mut Server<L>, first: u32, count: u32) {
-    for number in 0..count {
-        server.step(alloc, &put(alloc, first.saturating_add(number)));
+// The path of a commit of a round.
+fn path_of(measure: Measure, round: u32, number: u32) -> usize {
+    let before = if measure.is_wide { round.saturating_mul(COMMITS) } else { 0 };
+    let place = u64::from(before.saturating_add(number)).wrapping_mul(APART);
+    place.checked_rem(u64::from(measure.rows)).unwrap_or(0) as usize
+}
+
+fn ticket_of(measure: Measure, round: u32, number: u32) -> u32 {
+    measure.first.saturating_add(round.saturating_mul(COMMITS)).saturating_add(number)
+}
+
+// Draws the tickets of a round, and makes its commits.
+fn round_of<L: Ledger>(alloc: Global, server: &mut Server<L>, measure: Measure, round: u32) -> anyhow::Result<Vec<Event>> {
+    let mut events = Vec::new(alloc);
+    for number in 0..COMMITS {
+        server.step(alloc, &draw(alloc, path_of(measure, round, number))?);
+        events.push(put(alloc, ticket_of(measure, round, number))?)?;
     }
+    Ok(events)
+}
+
+fn commit<L: Ledger>(alloc: Global, server: &mut Server<L>, events: &[Event]) {
+    for event in events {
+        server.step(alloc, event);
+    }
+}
+
+// The nanoseconds of a commit, over all rounds.
+fn time_rounds<L: Ledger>(rt: &HostRuntime, server: &mut Server<L>, measure: Measure) -> anyhow::Result<u128> {
+    let mut spent: u128 = 0;
+    for round in 0..ROUNDS {
+        let events = round_of(rt.alloc(), server, measure, round)?;
+        let start = Instant::now(rt)?;
+        commit(rt.alloc(), server, &events);
+        spent = spent.saturating_add(start.elapsed(rt)?.as_nanos());
+    }
+    Ok(spent / u128::from(COMMITS * ROUNDS))
 }
 
 fn time_commits<L: Ledger>(rt: &HostRuntime, server: &mut Server<L>, rows: u32, queries: u32, first: u32) -> anyhow::Result<()> {
-    draw_again(rt.alloc(), server, COMMITS)?;
-    let start = Instant::now(rt)?;
-    commit(rt.alloc(), server, first, COMMITS);
-    let spent = start.elapsed(rt)?.as_nanos() / u128::from(COMMITS);
-    println!(rt; "a commit over {rows} rows and {queries} finished queries: {spent} ns")?;
+    let same = time_rounds(rt, server, Measure { first, rows, is_wide: false })?;
+    let first = first.saturating_add(COMMITS * ROUNDS);
+    let wide = time_rounds(rt, server, Measure { first, rows, is_wide: true })?;
+    println!(rt; "a commit over {rows} rows and {queries} finished queries: {same} ns at 1,000 paths, {wide} ns at paths all over")?;
     Ok(())
 }
 
@@ -140,9 +198,9 @@ fn time_counted<L: Ledger>(rt: &HostRuntime, rows: u32, blank: Blank) -> anyhow:
     time_commits(rt, &mut server, rows, 0, first)?;
     time_queries(rt, &mut server, rows)?;
     finish(alloc, &mut server, 0, 8)?;
-    time_commits(rt, &mut server, rows, 8, first.saturating_add(COMMITS))?;
+    time_commits(rt, &mut server, rows, 8, first.saturating_add(COMMITS * ROUNDS * 2))?;
     finish(alloc, &mut server, 8, 64)?;
-    time_commits(rt, &mut server, rows, 64, first.saturating_add(COMMITS * 2))?;
+    time_commits(rt, &mut server, rows, 64, first.saturating_add(COMMITS * ROUNDS * 4))?;
     Ok(())
 }
 

@@ -1,7 +1,11 @@
-// Guesses at the number of a path, by a hash of its text. A guess may be wrong, so whoever asks compares the paths.
+// Guesses at the number of a path, by a hash of its text. What is not found here may be there all the same.
+ghost use Rattle.std.specs.Prelude.{◌≡◌, true, IfSome};
+ghost use Rattle.md_paths.specs.Tables.{has_at};
 
+use crate::table::has_at;
 use md_value::Path;
 use std::alloc::{AllocError, Global};
+use std::ops::Range;
 
 // The offset and the prime of the hash FNV-1a of 64 bits.
 const HASH_OFFSET: u64 = 0xcbf2_9ce4_8422_2325;
@@ -10,8 +14,14 @@ const HASH_PRIME: u64 = 0x0100_0000_01b3;
 
 // How many buckets there are at first.
 const FIRST_BUCKETS: usize = 64;
+// How many buckets in a row are tried.
+const TRIES: usize = 16;
+// The low bits of a bucket hold a number and one more, the others a part of the hash.
+const NUMBER_BITS: u32 = 24;
 
-/// For each bucket, a power of two of them, the number of the path that was noted there last.
+const NUMBER_MASK: u32 = (1 << NUMBER_BITS) - 1;
+
+/// A power of two of buckets. Each is 0 where it is empty, or has the number of a path that was noted there.
 #[derive(Drop)]
 pub struct Hints {
     buckets: Vec<u32>,
@@ -26,18 +36,36 @@ fn hash_of(path: &Path) -> u64 {
     hash ^ (hash >> 32)
 }
 
-// The bucket of a path among so many.
-fn bucket_of(path: &Path, buckets: usize) -> usize {
-    match buckets.checked_sub(1) {
-        Some(mask) => hash_of(path) as usize & mask,
-        None => 0,
-    }
+// The part of a hash that a bucket holds.
+fn tag_of(hash: u64) -> u32 {
+    (hash >> 32) as u32 & !NUMBER_MASK
 }
 
+// Where a hash has its own bucket, and where its last try ends.
+fn tries_of(hash: u64, buckets: usize) -> Range<usize> {
+    let own = match buckets.checked_sub(1) {
+        Some(mask) => hash as usize & mask,
+        None => 0,
+    };
+    own..buckets.min(own.saturating_add(TRIES))
+}
+
+// Puts a number into the first empty bucket that is tried. Where there is none, or the number is too great, it is left out.
 fn note_in(buckets: &mut [u32], path: &Path, number: usize) {
-    let at = bucket_of(path, buckets.len());
-    if let (Some(bucket), Ok(number)) = (buckets.get_mut(at), u32::try_from(number)) {
-        *bucket = number;
+    let hash = hash_of(path);
+    let Ok(number) = u32::try_from(number) else {
+        return;
+    };
+    if number >= NUMBER_MASK {
+        return;
+    }
+    for place in tries_of(hash, buckets.len()) {
+        if let Some(bucket) = buckets.get_mut(place) {
+            if *bucket == 0 {
+                *bucket = tag_of(hash) | (number + 1);
+                return;
+            }
+        }
     }
 }
 
@@ -49,12 +77,19 @@ impl Hints {
         }
     }
 
-    /// A number that may be that of a path.
-    pub fn guess(&self, path: &Path) -> usize {
-        match self.buckets.get(bucket_of(path, self.buckets.len())) {
-            Some(number) => *number as usize,
-            None => 0,
+    /// A number of the path among these paths, where one was noted.
+    pub fn find(&self, paths: &[Path], path: &Path) -> Option<usize>
+        ensures { IfSome result (λ number. has_at paths.now number path.now ≡ true) }
+    {
+        let hash = hash_of(path);
+        for place in tries_of(hash, self.buckets.len()) {
+            let bucket = *self.buckets.get(place)?;
+            let number = (bucket & NUMBER_MASK).checked_sub(1)? as usize;
+            if bucket & !NUMBER_MASK == tag_of(hash) && has_at(paths, number, path) {
+                return Some(number);
+            }
         }
+        None
     }
 
     /// Notes the number of a path.

@@ -49,7 +49,8 @@ fn rank_of(paths: &[Path], order: &SlotList, path: &Path) -> usize
     )
 }
 
-fn has_at(paths: &[Path], number: usize, path: &Path) -> bool
+/// Whether a number is that of a path.
+pub fn has_at(paths: &[Path], number: usize, path: &Path) -> bool
     ensures { result ≡ has_at paths.now number path.now }
 {
     match paths.get(number) {
@@ -104,11 +105,10 @@ impl PathTable {
     pub fn number_of(&self, path: &Path) -> Option<usize>
         ensures { result ≡ number_in self.now.keys path.now }
     {
-        let guess = self.hints.guess(path);
-        if has_at(&self.paths, guess, path) {
-            return Some(guess);
+        match self.hints.find(&self.paths, path) {
+            Some(number) => Some(number),
+            None => number_by_rank(&self.paths, &self.order, path),
         }
-        number_by_rank(&self.paths, &self.order, path)
     }
 
     /// The number of the path before which so many stand, by bytes.

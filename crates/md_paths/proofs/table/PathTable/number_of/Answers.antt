@@ -3,9 +3,9 @@ use Rattle.md_paths.specs.Tables.{has_at}
 use Rattle.md_paths.proofs.Sorting.{guessed}
 use Rattle.md_paths.proofs.table.PathTable.number_of.Goals as goal
 
-pub returns-then-has_at : goal.returns-then-has_at
-returns-then-has_at c =
+pub returns-in-Some : goal.returns-in-Some
+returns-in-Some c =
     let t = c.self.inside in
     let path = c.args.path.now in
-    let same : has_at t.paths.items c.guess-guess.result path ≡ true = search rules in
-    rw (← c.self.view_is) (guessed t.paths.items t.order.items path c.self.invariant c.guess-guess.result same)
+    let same : has_at t.paths.items c.in-Some.number path ≡ true = search rules in
+    rw (← c.self.view_is) (guessed t.paths.items t.order.items path c.self.invariant c.in-Some.number same)
