@@ -1,12 +1,12 @@
 #!/usr/bin/env python3
-"""Times `live` on puts whose paths were chosen to collide in the kit's hasher, beside puts of random paths.
+"""Times `live` on puts whose paths were chosen to meet in one bucket of the table of paths, beside puts of random paths.
 
     chosen_paths.py [PUTS..]        as many puts, or 10,000 and 90,000
 
-The hasher has a fixed seed: it takes the number of a path's bytes and then each byte into a state of 64 bits. `PAIRS` has
-two texts for each of 17 places that leave the same state, so the 131,072 paths of one text for each place have one hash.
-A birthday search found them, place by place. Prints the processor seconds of both; the chosen paths may take at most 5 times
-those of the random ones, and then the last line is 'ok'. The program is built before.
+A path is first looked for by FNV-1a of 64 bits, whose low bits, with those of its upper half, choose the bucket. `PAIRS` has
+two texts for each of 17 places that leave the same low 50 bits, so the 131,072 paths of one text for each place have one
+bucket, in tables of up to 262,144. A birthday search found them, place by place. Prints the processor seconds of both; the
+chosen paths may take at most 5 times those of the random ones, and then the last line is 'ok'. The program is built before.
 """
 import itertools
 import pathlib
@@ -19,8 +19,9 @@ TOP = pathlib.Path(__file__).resolve().parents[2]
 MOST_TIMES = 5
 ENDING = ".txt"
 LETTERS = "0123456789ABCDEFGHIJKLMNOPQRSTUVWXYZabcdefghijklmnopqrstuvwxyz-_"
-MULTIPLIER = 0x9E37_79B9_7F4A_7C15
-START = 0x243F_6A88_85A3_08D3
+OFFSET = 0xCBF2_9CE4_8422_2325
+PRIME = 0x0100_0000_01B3
+SAME_BITS = 50
 PAIRS = """
 OskMoRNXR7A wHWLuW9XT3P
 -Ji3jVvYR1A EFzT7armI3m
@@ -42,23 +43,18 @@ fdKKTGBx520 IUn4LnCdz4n
 """.split()
 
 
-def folded_multiply(a, b):
-    product = a * b
-    return product & 0xFFFF_FFFF_FFFF_FFFF ^ product >> 64
-
-
 def after(state, text):
-    """The state of the kit's `FoldHasher` after the bytes of a text."""
+    """The state of the hash after the bytes of a text."""
     for byte in text.encode():
-        state = folded_multiply(state ^ byte * 0x10101, MULTIPLIER ^ 2)
+        state = (state ^ byte) * PRIME & 0xFFFF_FFFF_FFFF_FFFF
     return state
 
 
 def chosen_paths(count):
     places = list(zip(PAIRS[::2], PAIRS[1::2]))
-    state = folded_multiply(START ^ len("".join(PAIRS[::2]) + ENDING), MULTIPLIER ^ 16)
+    state = OFFSET
     for one, other in places:
-        if after(state, one) != after(state, other):
+        if (after(state, one) ^ after(state, other)) % (1 << SAME_BITS):
             sys.exit(f"{one} and {other} do not collide")
         state = after(state, one)
     paths = ["".join(texts) + ENDING for texts in itertools.islice(itertools.product(*places), count)]
