@@ -3,7 +3,7 @@ ghost use Rattle.std.specs.Prelude.{◌≡◌, ◌<◌, ◌^◌, ◌∷◌, [], 
 ghost use Rattle.md_value.specs.Name.{is_name};
 ghost use Rattle.md_value.specs.declared.value.Value.TheVariants as value;
 ghost use Rattle.imp_rules.specs.Files.{with_values};
-ghost use Rattle.imp_rules.specs.Faults.{Answers};
+ghost use Rattle.imp_rules.specs.Faults.{FillsAs};
 ghost use Rattle.imp_csv.specs.Tables.{csv_attributes, attributes_of, with_table};
 
 use crate::reading::records;
@@ -33,7 +33,7 @@ fn put_table(alloc: Global, attrs: &mut Attrs, records: &Records) -> Result<(), 
 }
 
 fn attributes_of(alloc: Global, records: &Records, offset: i32) -> Result<Attrs, FillFault>
-    ensures { Answers result (attributes_of offset records.now) }
+    ensures { FillsAs result (attributes_of offset records.now) }
 {
     if let Some(number) = records.uneven() {
         return Err(FillFault::Fault(Fault::Uneven(number)));
@@ -49,7 +49,7 @@ fn attributes_of(alloc: Global, records: &Records, offset: i32) -> Result<Attrs,
 /// `Uneven` comes exactly where a record has another number of fields than the first. Then the names of the schema
 /// that files set and that stand in the first record are taken in ascending order, and the first fault decides.
 pub fn fill(alloc: Global, text: &str, offset: i32) -> Result<Attrs, FillFault>
-    ensures { Answers result (csv_attributes text.now offset) }
+    ensures { FillsAs result (csv_attributes text.now offset) }
 {
     let records = records(alloc, text)?;
     attributes_of(alloc, &records, offset)

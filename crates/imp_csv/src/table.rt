@@ -1,13 +1,13 @@
 // What a table gives each name.
 ghost use Rattle.std.specs.Prelude.{◌≡◌, false, IfOk, All};
 ghost use Rattle.md_value.specs.Values.{IsInRange, is_mixed};
-ghost use Rattle.imp_rules.specs.Faults.{Answers};
+ghost use Rattle.imp_rules.specs.Faults.{FillsAs};
 ghost use Rattle.imp_csv.specs.Tables.{giving_of};
 
 use crate::records::Records;
 use crate::values::values_of;
 use imp_rules::FileValues;
-use md_value::{FillFault, Items, Name, Rule, Value};
+use md_value::{FillFault, PlainVec, Name, Rule, Value};
 use std::alloc::Global;
 
 /// The records of a text, and the offset of the dates in it.
@@ -23,8 +23,8 @@ fn values_of_name(
     rule: Rule,
     offset: i32,
     records: &Records,
-) -> Result<Items<Value>, FillFault>
-    ensures value { Answers result (giving_of offset records.now name.now rule) }
+) -> Result<PlainVec<Value>, FillFault>
+    ensures value { FillsAs result (giving_of offset records.now name.now rule) }
     ensures in_range { IfOk result (λ values. All IsInRange values) }
     ensures one_kind { IfOk result (λ values. is_mixed values ≡ false) }
 {
@@ -35,7 +35,7 @@ fn values_of_name(
 impl FileValues for Table<'_> {
     ghost giving = { λ t. giving_of t.offset t.records.now };
 
-    fn values(&self, alloc: Global, name: &Name, rule: Rule) -> Result<Items<Value>, FillFault> {
+    fn values(&self, alloc: Global, name: &Name, rule: Rule) -> Result<PlainVec<Value>, FillFault> {
         values_of_name(alloc, name, rule, self.offset, self.records)
     }
 }

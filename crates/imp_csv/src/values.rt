@@ -1,12 +1,12 @@
 // The values that fields give an attribute.
 ghost use Rattle.std.specs.Prelude.{◌≡◌, ◌==◌, ◌++◌, ◌∷◌, [], OnOk, slice_index, map};
-ghost use Rattle.imp_rules.specs.Faults.{Answers, all_given};
+ghost use Rattle.imp_rules.specs.Faults.{FillsAs, all_given};
 ghost use Rattle.imp_csv.specs.Numbers.{whole_number};
 ghost use Rattle.imp_csv.specs.Tables.{value_of, values_of};
 
 use crate::fields::Fields;
 use imp_rules::{date_value, text_value};
-use md_value::{Copied, Fault, FillFault, Items, Kind, Memory, Name, Rule, Value};
+use md_value::{Copied, Fault, FillFault, PlainVec, Kind, Memory, Name, Rule, Value};
 use std::alloc::Global;
 
 fn begins_with_plus(text: &[u8]) -> bool
@@ -32,7 +32,7 @@ fn value_of(
     offset: i32,
     field: &str,
 ) -> Result<Value, FillFault>
-    ensures { Answers result (value_of offset name.now kind field.now) }
+    ensures { FillsAs result (value_of offset name.now kind field.now) }
 {
     match kind {
         Kind::Text => Ok(text_value(alloc, field)?),
@@ -58,15 +58,15 @@ fn all_values(
     kind: Kind,
     offset: i32,
     fields: &Fields,
-) -> Result<Items<Value>, FillFault>
-    ensures { Answers result (all_given (map (value_of offset name.now kind) fields.now)) }
+) -> Result<PlainVec<Value>, FillFault>
+    ensures { FillsAs result (all_given (map (value_of offset name.now kind) fields.now)) }
 {
     let mut values = Vec::with_capacity(alloc, fields.len())?;
     for place in 0..fields.len() {
         let value = value_of(alloc, name, kind, offset, fields.at(place))?;
         push_value(&mut values, value)?;
     }
-    Ok(Items::from_vec(values))
+    Ok(PlainVec::from_vec(values))
 }
 
 /// The values that the fields give the attribute of this name, or the first fault.
@@ -76,8 +76,8 @@ pub(crate) fn values_of(
     rule: Rule,
     offset: i32,
     fields: &Fields,
-) -> Result<Items<Value>, FillFault>
-    ensures value { Answers result (values_of offset name.now rule fields.now) }
+) -> Result<PlainVec<Value>, FillFault>
+    ensures value { FillsAs result (values_of offset name.now rule fields.now) }
 {
     if !rule.many && fields.len() > 1 {
         return Err(FillFault::Fault(Fault::NotSingle(name.copy(alloc)?)));

@@ -2,7 +2,7 @@
 ghost use Rattle.std.specs.Prelude.{◌≡◌, IfOk, string_bytes, Some};
 ghost use Rattle.serde_json.specs.View.{view};
 ghost use Rattle.imp_rules.specs.Content.{spaced};
-ghost use Rattle.imp_rules.specs.Faults.{Answers};
+ghost use Rattle.imp_rules.specs.Faults.{FillsAs};
 ghost use Rattle.imp_json.specs.Objects.{json_attributes, attributes_of};
 ghost use Rattle.imp_json.specs.Strings.{strings};
 
@@ -23,7 +23,7 @@ fn spaced_strings(alloc: Global, json: &Json) -> Result<String, Memory>
 }
 
 fn attributes_of(alloc: Global, json: &Json, offset: i32) -> Result<Attrs, FillFault>
-    ensures { Answers result (attributes_of offset (Some (view json.now))) }
+    ensures { FillsAs result (attributes_of offset (Some (view json.now))) }
 {
     if !json.is_object() {
         return Err(FillFault::Fault(Fault::NotObject));
@@ -40,7 +40,7 @@ fn attributes_of(alloc: Global, json: &Json, offset: i32) -> Result<Attrs, FillF
 /// `NotJson` comes exactly where the text is no JSON, `NotObject` where it is no object. Then the names of the schema
 /// that files set are taken in ascending order, and the first value with a fault decides.
 pub fn fill(alloc: Global, text: &str, offset: i32) -> Result<Attrs, FillFault>
-    ensures { Answers result (json_attributes text.now offset) }
+    ensures { FillsAs result (json_attributes text.now offset) }
 {
     match Json::from_str(alloc, text) {
         Ok(json) => attributes_of(alloc, &json, offset),

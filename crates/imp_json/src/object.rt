@@ -5,7 +5,7 @@ ghost use Rattle.imp_json.specs.Objects.{giving_of};
 
 use crate::values::values_of;
 use imp_rules::FileValues;
-use md_value::{FillFault, Items, Name, Rule, Value};
+use md_value::{FillFault, PlainVec, Name, Rule, Value};
 use serde_json::Value as Json;
 use std::alloc::Global;
 
@@ -19,10 +19,10 @@ pub(crate) struct Object<'a> {
 impl FileValues for Object<'_> {
     ghost giving = { λ o. giving_of o.offset (view o.json.now) };
 
-    fn values(&self, alloc: Global, name: &Name, rule: Rule) -> Result<Items<Value>, FillFault> {
+    fn values(&self, alloc: Global, name: &Name, rule: Rule) -> Result<PlainVec<Value>, FillFault> {
         match self.json.get(name.as_str()) {
             Some(json) => values_of(alloc, name, rule, self.offset, json),
-            None => Ok(Items::new(alloc)),
+            None => Ok(PlainVec::new(alloc)),
         }
     }
 }

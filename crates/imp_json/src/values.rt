@@ -1,16 +1,16 @@
 // The values that a JSON value gives an attribute.
 ghost use Rattle.std.specs.Prelude.{◌≡◌, ◌∷◌, [], map, filter};
 ghost use Rattle.serde_json.specs.View.{view, items_view};
-ghost use Rattle.imp_rules.specs.Faults.{Answers, made_of, all_given};
+ghost use Rattle.imp_rules.specs.Faults.{FillsAs, made_of, all_given};
 ghost use Rattle.imp_json.specs.Objects.{text_of, number_of, moment_of, value_of, values_of, is_given};
 
 use imp_rules::{date_value, text_value};
-use md_value::{Copied, Fault, FillFault, Items, Kind, Name, Rule, Value};
+use md_value::{Copied, Fault, FillFault, PlainVec, Kind, Name, Rule, Value};
 use serde_json::Value as Json;
 use std::alloc::Global;
 
 fn text_of(alloc: Global, name: &Name, json: &Json) -> Result<Value, FillFault>
-    ensures { Answers result (text_of name.now (view json.now)) }
+    ensures { FillsAs result (text_of name.now (view json.now)) }
 {
     match json.as_str() {
         Some(text) => Ok(text_value(alloc, text)?),
@@ -19,7 +19,7 @@ fn text_of(alloc: Global, name: &Name, json: &Json) -> Result<Value, FillFault>
 }
 
 fn number_of(alloc: Global, name: &Name, json: &Json) -> Result<Value, FillFault>
-    ensures { Answers result (number_of name.now (view json.now)) }
+    ensures { FillsAs result (number_of name.now (view json.now)) }
 {
     let Some(number) = json.as_number() else {
         return Err(FillFault::Fault(Fault::BadKind(name.copy(alloc)?)));
@@ -31,7 +31,7 @@ fn number_of(alloc: Global, name: &Name, json: &Json) -> Result<Value, FillFault
 }
 
 fn moment_of(alloc: Global, name: &Name, offset: i32, json: &Json) -> Result<Value, FillFault>
-    ensures { Answers result (moment_of offset name.now (view json.now)) }
+    ensures { FillsAs result (moment_of offset name.now (view json.now)) }
 {
     match json.as_str() {
         Some(text) => date_value(alloc, name, text, offset),
@@ -46,7 +46,7 @@ fn value_of(
     offset: i32,
     json: &Json,
 ) -> Result<Value, FillFault>
-    ensures { Answers result (value_of offset name.now kind (view json.now)) }
+    ensures { FillsAs result (value_of offset name.now kind (view json.now)) }
 {
     match kind {
         Kind::Text => text_of(alloc, name, json),
@@ -69,10 +69,10 @@ fn values_in(
     kind: Kind,
     offset: i32,
     members: &[Json],
-) -> Result<Items<Value>, FillFault>
-    ensures { Answers result (all_given (map (value_of offset name.now kind) (filter is_given (map view members.now)))) }
+) -> Result<PlainVec<Value>, FillFault>
+    ensures { FillsAs result (all_given (map (value_of offset name.now kind) (filter is_given (map view members.now)))) }
 {
-    let mut values = Items::new(alloc);
+    let mut values = PlainVec::new(alloc);
     for member in members {
         if is_given(member) {
             values.push(value_of(alloc, name, kind, offset, member)?)?;
@@ -87,10 +87,10 @@ fn only_value(
     kind: Kind,
     offset: i32,
     json: &Json,
-) -> Result<Items<Value>, FillFault>
-    ensures { Answers result (made_of (λ v. v ∷ []) (value_of offset name.now kind (view json.now))) }
+) -> Result<PlainVec<Value>, FillFault>
+    ensures { FillsAs result (made_of (λ v. v ∷ []) (value_of offset name.now kind (view json.now))) }
 {
-    let mut values = Items::new(alloc);
+    let mut values = PlainVec::new(alloc);
     values.push(value_of(alloc, name, kind, offset, json)?)?;
     Ok(values)
 }
@@ -102,11 +102,11 @@ pub(crate) fn values_of(
     rule: Rule,
     offset: i32,
     json: &Json,
-) -> Result<Items<Value>, FillFault>
-    ensures value { Answers result (values_of offset name.now rule (view json.now)) }
+) -> Result<PlainVec<Value>, FillFault>
+    ensures value { FillsAs result (values_of offset name.now rule (view json.now)) }
 {
     match json {
-        Json::Null => Ok(Items::new(alloc)),
+        Json::Null => Ok(PlainVec::new(alloc)),
         Json::Array(members) if rule.many => values_in(alloc, name, rule.kind, offset, members),
         Json::Array(_) => Err(FillFault::Fault(Fault::NotSingle(name.copy(alloc)?))),
         _ => only_value(alloc, name, rule.kind, offset, json),

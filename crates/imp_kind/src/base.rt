@@ -9,30 +9,30 @@ ghost use Rattle.imp_kind.specs.Kinds.{content_types, is_imported};
 use crate::FileKind;
 use imp_rules::{put_text, put_value, put_values, text_value};
 use md_source::Entry;
-use md_value::{Attrs, Items, Memory, Value};
+use md_value::{Attrs, PlainVec, Memory, Value};
 use std::alloc::Global;
 
-fn push_text(alloc: Global, values: &mut Items<Value>, bytes: &str) -> Result<(), Memory>
+fn push_text(alloc: Global, values: &mut PlainVec<Value>, bytes: &str) -> Result<(), Memory>
     ensures { OnOk result (values.new ≡ values.old ++ value.Text (chars bytes.now) ∷ []) }
 {
     let value = text_value(alloc, bytes)?;
     values.push(value)
 }
 
-fn other_types(alloc: Global) -> Result<Items<Value>, Memory>
+fn other_types(alloc: Global) -> Result<PlainVec<Value>, Memory>
     ensures { IfOk result (λ values. values ≡ texts (codes "public.data" ∷ codes "public.item" ∷ [])) }
 {
-    let mut values = Items::new(alloc);
+    let mut values = PlainVec::new(alloc);
     push_text(alloc, &mut values, "public.data")?;
     push_text(alloc, &mut values, "public.item")?;
     Ok(values)
 }
 
-fn text_types(alloc: Global, content_type: &str) -> Result<Items<Value>, Memory>
+fn text_types(alloc: Global, content_type: &str) -> Result<PlainVec<Value>, Memory>
     ensures { IfOk result (λ values. values
         ≡ texts (content_type.now ∷ codes "public.text" ∷ codes "public.data" ∷ codes "public.item" ∷ codes "public.content" ∷ [])) }
 {
-    let mut values = Items::new(alloc);
+    let mut values = PlainVec::new(alloc);
     push_text(alloc, &mut values, content_type)?;
     push_text(alloc, &mut values, "public.text")?;
     push_text(alloc, &mut values, "public.data")?;
@@ -41,7 +41,7 @@ fn text_types(alloc: Global, content_type: &str) -> Result<Items<Value>, Memory>
     Ok(values)
 }
 
-fn types_of(alloc: Global, kind: FileKind) -> Result<Items<Value>, Memory>
+fn types_of(alloc: Global, kind: FileKind) -> Result<PlainVec<Value>, Memory>
     ensures { IfOk result (λ values. values ≡ texts (content_types kind)) }
 {
     match kind {

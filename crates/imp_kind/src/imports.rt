@@ -2,7 +2,7 @@
 ghost use Rattle.std.specs.Prelude.{◌≡◌, nat_eq, ◌∷◌, []};
 ghost use Rattle.std.specs.List.{starts_with};
 ghost use Rattle.md_value.specs.Values.{IsMoment};
-ghost use Rattle.imp_rules.specs.Faults.{Answers};
+ghost use Rattle.imp_rules.specs.Faults.{FillsAs};
 ghost use Rattle.csv.specs.Reading.{strip_bom};
 ghost use Rattle.imp_kind.specs.Imports.{text_of_kind, bytes_of_kind, sized_bytes, content_attributes, import, IsImported};
 
@@ -44,7 +44,7 @@ fn without_mark(text: &str) -> &str
 }
 
 fn text_of_kind(alloc: Global, kind: FileKind, text: &str, offset: i32) -> Result<Attrs, FillFault>
-    ensures { Answers result (text_of_kind kind text.now offset) }
+    ensures { FillsAs result (text_of_kind kind text.now offset) }
 {
     match kind {
         FileKind::Plain => imp_text::fill(alloc, text),
@@ -60,7 +60,7 @@ fn bytes_of_kind(
     bytes: &[u8],
     offset: i32,
 ) -> Result<Attrs, FillFault>
-    ensures { Answers result (bytes_of_kind kind bytes.now offset) }
+    ensures { FillsAs result (bytes_of_kind kind bytes.now offset) }
 {
     match std::str::from_utf8(bytes) {
         Ok(text) => text_of_kind(alloc, kind, without_mark(text), offset),
@@ -75,7 +75,7 @@ fn sized_bytes(
     bytes: &[u8],
     offset: i32,
 ) -> Result<Attrs, FillFault>
-    ensures { Answers result (sized_bytes kind size bytes.now offset) }
+    ensures { FillsAs result (sized_bytes kind size bytes.now offset) }
 {
     if size > MOST_BYTES {
         return Err(FillFault::Fault(Fault::TooLarge(size)));
@@ -90,7 +90,7 @@ fn content_attributes(
     bytes: &[u8],
     offset: i32,
 ) -> Result<Attrs, FillFault>
-    ensures { Answers result (content_attributes kind size bytes.now offset) }
+    ensures { FillsAs result (content_attributes kind size bytes.now offset) }
 {
     match kind {
         FileKind::Other => Ok(Attrs::new(alloc)),
@@ -105,7 +105,7 @@ fn attributes_of(
     offset: i32,
 ) -> Result<Attrs, FillFault>
     requires { IsMoment entry.now.changed }
-    ensures { Answers result (import entry.now bytes.now offset) }
+    ensures { FillsAs result (import entry.now bytes.now offset) }
 {
     let kind = kind_of(&entry.path);
     let mut attrs = content_attributes(alloc, kind, entry.size, bytes, offset)?;

@@ -10,7 +10,7 @@ use Rattle.md_value.specs.declared.value.Value.TheVariants as value
 use Rattle.imp_rules.specs.Content.{joined, spaced}
 use Rattle.md_value.specs.declared.fault.FillFault.{FillFault}
 use Rattle.md_value.specs.declared.fault.FillFault.TheVariants as fill
-use Rattle.imp_rules.specs.Faults.{IsCause, Answers, made_of, all_given, given_then}
+use Rattle.imp_rules.specs.Faults.{IsCause, FillsAs, made_of, all_given, given_then}
 
 made_of-made_of : {A : Type 0} (done : List A) (a : A) (rest : Result (List A) Fault) → made_of (λ more. done ++ more) (made_of (λ more. a ∷ more) rest) ≡ made_of (λ more. (done ++ a ∷ []) ++ more) rest
 made_of-made_of done a (Ok more) = ap Ok (sym (append_assoc done (a ∷ []) more))
@@ -81,6 +81,6 @@ cause_of_all done first rest all is (fill.Fault fault) h = sym is ∙ rw h refl
 cause_of_all done first rest all is fill.Memory h = tt
 
 -- what holds of what is given holds of the answer
-pub if_ok : {A : Type 0} (P : A → Type 0) (r : Result A FillFault) (given : Result A Fault) → Answers r given → ((a : A) → given ≡ Ok a → P a) → IfOk r P
+pub if_ok : {A : Type 0} (P : A → Type 0) (r : Result A FillFault) (given : Result A Fault) → FillsAs r given → ((a : A) → given ≡ Ok a → P a) → IfOk r P
 if_ok P (Ok a) given h each = each a h
 if_ok P (Err cause) given h each = tt

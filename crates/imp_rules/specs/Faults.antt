@@ -10,8 +10,8 @@ IsCause (fill.Fault fault) given = given ≡ Err fault
 IsCause fill.Memory given = Unit {0}
 
 -- the answer is what is given, or want of memory
-abbrev pub Answers : {A : Type 0} → Result A FillFault → Result A Fault → Type 0
-Answers result given = MatchResult result (λ a. given ≡ Ok a) (λ cause. IsCause cause given)
+abbrev pub FillsAs : {A : Type 0} → Result A FillFault → Result A Fault → Type 0
+FillsAs result given = MatchResult result (λ a. given ≡ Ok a) (λ cause. IsCause cause given)
 
 -- what is made of what was given, or its fault
 abbrev pub made_of : {A B : Type 0} → (A → B) → Result A Fault → Result B Fault

@@ -5,7 +5,7 @@ ghost use Rattle.md_value.specs.Values.{IsInRange, is_mixed};
 ghost use Rattle.imp_rules.specs.Files.{with_values, with_given, with_content, text};
 
 use crate::text_value;
-use md_value::{Attrs, Items, Memory, Name, NameError, PutError, Value};
+use md_value::{Attrs, PlainVec, Memory, Name, NameError, PutError, Value};
 use std::alloc::Global;
 
 // The name of an attribute that is known.
@@ -22,7 +22,7 @@ pub(crate) fn known_name(alloc: Global, name: &str) -> Result<Name, Memory>
 
 // Sets the values, where there are some.
 #[tactic(auto, unfolding(crate::specs::Files::with_values))]
-pub(crate) fn put_given(attrs: &mut Attrs, name: Name, values: Items<Value>) -> Result<(), Memory>
+pub(crate) fn put_given(attrs: &mut Attrs, name: Name, values: PlainVec<Value>) -> Result<(), Memory>
     requires in_range { All IsInRange values }
     requires one_kind { is_mixed values ≡ false }
     ensures ok { OnOk result (attrs.new ≡ with_given attrs.old (name, values)) }
@@ -41,7 +41,7 @@ pub fn put_values(
     alloc: Global,
     attrs: &mut Attrs,
     name: &str,
-    values: Items<Value>,
+    values: PlainVec<Value>,
 ) -> Result<(), Memory>
     requires name { IsTrue (is_name name.now) }
     requires some { 0 < length values }
@@ -65,7 +65,7 @@ pub fn put_value(alloc: Global, attrs: &mut Attrs, name: &str, value: Value) -> 
     ensures ok { OnOk result (attrs.new ≡ with_values attrs.old name.now (value ∷ [])) }
     ensures err { OnErr result (attrs.new ≡ attrs.old) }
 {
-    let mut values = Items::new(alloc);
+    let mut values = PlainVec::new(alloc);
     values.push(value)?;
     put_values(alloc, attrs, name, values)
 }

@@ -11,7 +11,7 @@ use md_expr_tree::Expr;
 use md_machine::{Batch, Event, Spec};
 use md_script::{Line, What};
 use md_time::LocalTime;
-use md_value::{Copied, HIGH, Items, Path};
+use md_value::{Copied, HIGH, PlainVec, Path};
 use md_world::Order;
 use std::alloc::{AllocError, Global};
 
@@ -143,7 +143,7 @@ fn ask_by(
 }
 
 // Keeps an event, if there is one.
-fn keep(events: &mut Items<Event>, ask: Option<Event>) -> Result<(), AllocError>
+fn keep(events: &mut PlainVec<Event>, ask: Option<Event>) -> Result<(), AllocError>
     ensures { OnOk result (events.new ≡ events.old ++ option_to_list ask) }
 {
     if let Some(event) = ask {
@@ -158,11 +158,11 @@ pub fn asks_by(
     start: &LocalTime,
     lines: &[Line],
     id: u8,
-) -> Result<Items<Event>, AllocError>
+) -> Result<PlainVec<Event>, AllocError>
     requires { IsMoment start.now.moment }
     ensures { IfOk result (λ events. events ≡ filter (is_by id) (asks_in start.now.moment start.now.offset lines.now)) }
 {
-    let mut events = Items::new(alloc);
+    let mut events = PlainVec::new(alloc);
     for line in lines {
         let ask = ask_by(alloc, start, line, id)?;
         keep(&mut events, ask)?;

@@ -6,7 +6,7 @@ ghost use Rattle.md_machine.specs.Runs.{run};
 ghost use Rattle.md_merge.specs.Journals.{events_in};
 ghost use Rattle.md_merge.specs.Merging.{IsMerged};
 ghost use Rattle.md_script.specs.Limits.{most_lines};
-ghost use Rattle.md_files.specs.Answers.{InTurnSoFar};
+ghost use Rattle.md_files.specs.FileAnswers.{InTurnSoFar};
 ghost use Rattle.md_live.specs.Given.{IsGiven};
 ghost use Rattle.md_jobs.specs.Sources.{job_in};
 ghost use Rattle.md_clients.specs.Asks.{asks_in};
@@ -70,11 +70,11 @@ pub fn run_concurrently<R: Threads + Wait + Sync, T: Tree, G: Gate + Sync>(
     requires few { length lines.now ≤ most_lines }
     requires moment { IsMoment start.now.moment }
     requires workers { (0 < workers) × (workers ≤ 64) }
-    ensures runs { IfOk result (λ r. RunsConcurrently (T.content tree.old) (T.faults tree.old) (T.faults tree.new) start.now.moment start.now.offset lines.now r.jobs.jobs r.hub.state r.journal.items) }
+    ensures runs { IfOk result (λ r. RunsConcurrently (T.content tree.old) (T.failures tree.old) (T.failures tree.new) start.now.moment start.now.offset lines.now r.jobs.jobs r.hub.state r.journal.items) }
     ensures offset { IfOk result (λ r. r.jobs.offset ≡ start.now.offset) }
     // Also where memory runs out, some of the first of the imported files were asked for in turn, or all, and no others.
-    ensures so_far { InTurnSoFar (IsGiven start.now.offset (T.content tree.old)) (T.faults tree.old) (T.faults tree.new) lines.now }
-    ensures later { T.faults tree.old ≤ T.faults tree.new }
+    ensures so_far { InTurnSoFar (IsGiven start.now.offset (T.content tree.old)) (T.failures tree.old) (T.failures tree.new) lines.now }
+    ensures later { T.failures tree.old ≤ T.failures tree.new }
     ensures content { T.content tree.new ≡ T.content tree.old }
 {
     let jobs = read_jobs(alloc, tree, start, lines)?;

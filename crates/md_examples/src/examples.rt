@@ -2,14 +2,14 @@
 mod archive;
 mod comparing;
 mod example;
-mod fault;
+mod error;
 mod files;
 mod header;
 mod listing;
 mod running;
 mod tally;
 
-use fault::Fault;
+use error::ExampleError;
 use listing::files_below;
 use running::check;
 use std::fs::{self, Files};
@@ -33,7 +33,7 @@ where
     Ok(tally)
 }
 
-fn check_file<R>(rt: &R, path: &str) -> Result<Vec<String>, Fault>
+fn check_file<R>(rt: &R, path: &str) -> Result<Vec<String>, ExampleError>
 where
     R: Files + AllocGlobal + Threads + Sync,
 {
@@ -45,7 +45,7 @@ where
 fn print_checked(
     rt: &impl Print,
     name: &str,
-    checked: Result<Vec<String>, Fault>,
+    checked: Result<Vec<String>, ExampleError>,
 ) -> io::Result<bool> {
     match checked {
         Ok(lines) if lines.is_empty() => {
@@ -59,8 +59,8 @@ fn print_checked(
             }
             Ok(false)
         }
-        Err(fault) => {
-            println!(rt; "{name} is no example: {fault}")?;
+        Err(error) => {
+            println!(rt; "{name} is no example: {error}")?;
             Ok(false)
         }
     }

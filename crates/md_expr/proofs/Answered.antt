@@ -8,14 +8,14 @@ use Rattle.md_expr_tree.specs.WellMade.{is_well_made}
 use Rattle.md_expr_parse.specs.Reading.{Reading}
 use Rattle.md_expr_parse.specs.declared.read.ReadError.{ReadError}
 use Rattle.md_expr_parse.specs.declared.read.ReadError.TheVariants as error
-use Rattle.md_expr.specs.Answer.{Answers}
+use Rattle.md_expr.specs.Verdict.{IsVerdict}
 use Rattle.md_expr_plain.proofs.Well.{expression_well}
 
 -- these are the text's tokens, and it has no others
 abbrev pub Only : List ℕ → List Token → Type 0
 Only text ts = Lexes text ts × ((us : List Token) → Lexes text us → us ≡ ts)
 
-pub answered : (text : List ℕ) (ts : List Token) (r : Result Expr ReadError) → length text ≤ 65536 → Only (chars text) ts → Reading r ts → Answers r text
+pub answered : (text : List ℕ) (ts : List Token) (r : Result Expr ReadError) → length text ≤ 65536 → Only (chars text) ts → Reading r ts → IsVerdict r text
 answered text ts (Ok e) short o r = (short, record { tokens = ts; lexes = o.0; reads = r.0 }, r.1, r.2)
 answered text ts (Err error.Memory) short o r = tt
 answered text ts (Err error.TooLong) short o r = absurd r

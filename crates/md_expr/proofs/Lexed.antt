@@ -8,7 +8,7 @@ use Rattle.md_expr_lex.specs.Find.{token_at}
 use Rattle.md_expr_lex.proofs.Complete.{complete}
 use Rattle.md_expr_lex.proofs.Sound.{sound}
 use Rattle.md_expr_lex.proofs.Derive.{shorter}
-use Rattle.md_expr.specs.Outcome.{lex}
+use Rattle.md_expr.specs.Reader.{lex}
 
 lex-nil : (n : ℕ) → lex n [] ≡ Some []
 unfolding lex

@@ -1,4 +1,4 @@
 pub mod Answered
 pub mod Lexed
-pub mod Outcomes
+pub mod Verdicts
 pub mod Readings

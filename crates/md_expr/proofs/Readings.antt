@@ -5,7 +5,7 @@ use Rattle.md_expr_tree.specs.declared.token.Token.{Token}
 use Rattle.md_expr_tree.specs.Grammar.{IsExpression, groups}
 use Rattle.md_expr_lex.proofs.Derive.{one_lexing}
 use Rattle.md_expr_parse.proofs.Exact.{one_reading, one_depth}
-use Rattle.md_expr.specs.Answer.{HasOneReading}
+use Rattle.md_expr.specs.Verdict.{HasOneReading}
 
 agree : (ts us : List Token) → ts ≡ us → (e f : Expr) (d : IsExpression ts e) (g : IsExpression us f) → (e ≡ f) × (groups d ≡ groups g)
 agree ts us p e f d =

@@ -1,3 +1,3 @@
-pub mod Answer
-pub mod Outcome
+pub mod Verdict
+pub mod Reader
 pub mod Printed

@@ -2,9 +2,9 @@
 ghost use Rattle.std.specs.Prelude.{◌≡◌, ◌⊎◌, IfOk, Err, true, chars};
 ghost use Rattle.md_expr_tree.specs.WellMade.{is_well_made};
 ghost use Rattle.md_expr_parse.specs.declared.read.ReadError.TheVariants.{Memory};
-ghost use Rattle.md_expr.specs.Answer.{Answers, HasOneReading};
+ghost use Rattle.md_expr.specs.Verdict.{IsVerdict, HasOneReading};
 ghost use Rattle.md_expr.specs.Printed.{IsReadBack};
-ghost use Rattle.md_expr.specs.Outcome.{outcome, IsAnswer};
+ghost use Rattle.md_expr.specs.Reader.{verdict, IsOneVerdict};
 
 use md_expr_lex::{characters, tokens_of};
 use md_expr_parse::{ReadError, read_tokens};
@@ -19,8 +19,8 @@ use std::collections::VecDeque;
 /// exactly where it is not in the grammar, `TooDeep` exactly where over 64 groups are open at one place, `TooMany`
 /// exactly where it has over 4,096 comparisons.
 pub fn read(alloc: Global, text: &str) -> Result<Expr, ReadError>
-    ensures answer { Answers result text.now }
-    ensures outcome { (result ≡ outcome text.now) ⊎ (result ≡ Err Memory) }
+    ensures answer { IsVerdict result text.now }
+    ensures verdict { (result ≡ verdict text.now) ⊎ (result ≡ Err Memory) }
     ensures well_made { IfOk result (λ e. is_well_made e ≡ true) }
 {
     if MOST_BYTES < text.len() {
@@ -39,8 +39,8 @@ pub fn one_reading(text: &str)
 {}
 
 /// A law: what reading a text answers can be computed, and want of memory is the only other answer.
-pub fn one_outcome(text: &str)
-    ensures { IsAnswer text.now }
+pub fn one_verdict(text: &str)
+    ensures { IsOneVerdict text.now }
 {}
 
 /// A law: what is printed of an expression that some text reads as is read back as that expression, where the spelling

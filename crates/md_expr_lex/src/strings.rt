@@ -6,10 +6,10 @@ ghost use Rattle.md_expr_lex.specs.Strings.{words, modified, after_c, after_d, a
 use crate::class::is_escapable;
 use crate::prefix::{begins_word, first, push};
 use md_expr_tree::{Literal, Token};
-use md_value::{Items, Text};
+use md_value::{PlainVec, Text};
 use std::alloc::{AllocError, Global};
 
-fn words(pieces: Items<Text>, fold: bool, marks: bool, text: &[char]) -> Option<(Token, &[char])>
+fn words(pieces: PlainVec<Text>, fold: bool, marks: bool, text: &[char]) -> Option<(Token, &[char])>
     ensures { option_map (λ x. (x.0, x.1.now)) result ≡ words pieces fold marks text.now }
 {
     if begins_word(text) {
@@ -23,7 +23,7 @@ fn words(pieces: Items<Text>, fold: bool, marks: bool, text: &[char]) -> Option<
     Some((token, text))
 }
 
-fn after_c(pieces: Items<Text>, text: &[char]) -> Option<(Token, &[char])>
+fn after_c(pieces: PlainVec<Text>, text: &[char]) -> Option<(Token, &[char])>
     ensures { option_map (λ x. (x.0, x.1.now)) result ≡ after_c pieces text.now }
 {
     match text {
@@ -32,7 +32,7 @@ fn after_c(pieces: Items<Text>, text: &[char]) -> Option<(Token, &[char])>
     }
 }
 
-fn after_d(pieces: Items<Text>, text: &[char]) -> Option<(Token, &[char])>
+fn after_d(pieces: PlainVec<Text>, text: &[char]) -> Option<(Token, &[char])>
     ensures { option_map (λ x. (x.0, x.1.now)) result ≡ after_d pieces text.now }
 {
     match text {
@@ -41,7 +41,7 @@ fn after_d(pieces: Items<Text>, text: &[char]) -> Option<(Token, &[char])>
     }
 }
 
-fn modified(pieces: Items<Text>, text: &[char]) -> Option<(Token, &[char])>
+fn modified(pieces: PlainVec<Text>, text: &[char]) -> Option<(Token, &[char])>
     ensures { option_map (λ x. (x.0, x.1.now)) result ≡ modified pieces text.now }
 {
     match text {
@@ -96,7 +96,7 @@ fn empty_piece(alloc: Global) -> String
 }
 
 /// Ends a piece.
-fn end_piece(alloc: Global, pieces: &mut Items<Text>, piece: &str) -> Result<(), AllocError>
+fn end_piece(alloc: Global, pieces: &mut PlainVec<Text>, piece: &str) -> Result<(), AllocError>
     ensures { OnOk result (pieces.new ≡ pieces.old ++ chars piece.now ∷ []) }
 {
     pieces.push(Text::of(alloc, piece)?)
@@ -107,10 +107,10 @@ fn body(
     alloc: Global,
     quote: char,
     text: &[char],
-) -> Result<Option<(Items<Text>, &[char])>, AllocError>
+) -> Result<Option<(PlainVec<Text>, &[char])>, AllocError>
     ensures { IfOk result (λ r. option_map (λ x. (x.0, x.1.now)) r ≡ body_at false quote text.now) }
 {
-    let mut pieces = Items::new(alloc);
+    let mut pieces = PlainVec::new(alloc);
     let mut piece = empty_piece(alloc);
     let mut escaping = false;
     let mut rest = text;

@@ -3,8 +3,8 @@ use Rattle.std.proofs.Common.{◌≡◌, List, ℕ, ℤ, Option, Result, Ok, Err
 use Rattle.md_source.specs.Tree.{Content}
 use Rattle.md_source.specs.declared.tree.Entry.{Entry}
 use Rattle.imp_kind.specs.Imports.{import}
-use Rattle.md_files.specs.Answers.{IsRead, IsPrefix, Gives, of_import}
-use Rattle.md_files.specs.Answers.FileAnswer.{given}
+use Rattle.md_files.specs.FileAnswers.{IsRead, IsPrefix, Gives, of_import}
+use Rattle.md_files.specs.FileAnswers.FileAnswer.{given}
 use Rattle.md_files.specs.declared.asking.ImportResult.{ImportResult}
 
 pub ok_then : {T E : Type 0} (P Q : T → Type 0) → ((x : T) → P x → Q x) → (r : Result T E) → IfOk r P → IfOk r Q

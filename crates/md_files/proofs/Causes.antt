@@ -10,8 +10,8 @@ use Rattle.md_source.specs.Causes.{Rose}
 use Rattle.md_source.specs.Tree.{Content, File, file_at}
 use Rattle.md_source.specs.declared.tree.Entry.{Entry}
 use Rattle.imp_kind.specs.Imports.{import}
-use Rattle.md_files.specs.Answers.{FileAnswer, IsRead, AreAsked, IsCounted, of_import, outcome, failures}
-use Rattle.md_files.specs.Answers.FileAnswer.{given, absent, failed}
+use Rattle.md_files.specs.FileAnswers.{FileAnswer, IsRead, AreAsked, IsCounted, of_import, import_result, failures}
+use Rattle.md_files.specs.FileAnswers.FileAnswer.{given, absent, failed}
 use Rattle.md_files.specs.Folders.{PathResult, IsFound, AreFound, AreRead, found_failures, all_failures}
 use Rattle.md_files.specs.Folders.PathResult.{file, unfound, folder, unlisted, nothing}
 use Rattle.md_files.specs.Findings.{asked_findings, read_findings, found_findings, all_findings, is_failed, is_absent, end_of}
@@ -60,12 +60,12 @@ or_false true = refl
 or_false false = refl
 
 module _ (offset : ℤ) where
-  named_tells : (path : PathBytes) (answer : FileAnswer) → Tells (is_failed (named path (outcome offset answer))) (failures (answer ∷ []))
+  named_tells : (path : PathBytes) (answer : FileAnswer) → Tells (is_failed (named path (import_result offset answer))) (failures (answer ∷ []))
   named_tells path (given entry bytes) = rw (quiet_named path (import entry bytes offset)) tells_none
   named_tells path absent = tells_none
   named_tells path failed = tells_one
 
-  listed_tells : (path : PathBytes) (answer : FileAnswer) → Tells (is_failed (listed path (outcome offset answer))) (failures (answer ∷ []))
+  listed_tells : (path : PathBytes) (answer : FileAnswer) → Tells (is_failed (listed path (import_result offset answer))) (failures (answer ∷ []))
   listed_tells path (given entry bytes) = rw (quiet_listed path (import entry bytes offset)) tells_none
   listed_tells path absent = tells_none
   listed_tells path failed = tells_one
@@ -77,7 +77,7 @@ module _ (offset : ℤ) where
   asked_tells known before now (path ∷ paths) [] none = absurd none
   asked_tells known before now (path ∷ paths) (answer ∷ answers) turn =
       rw (sym (first_failures answer answers))
-      (tells_or (is_failed (named path (outcome offset answer))) (list_any is_failed (asked_findings offset paths answers)) (failures (answer ∷ [])) (failures answers)
+      (tells_or (is_failed (named path (import_result offset answer))) (list_any is_failed (asked_findings offset paths answers)) (failures (answer ∷ [])) (failures answers)
       (named_tells path answer) (asked_tells known turn.0 now paths answers turn.2))
 
   read_tells : (known : Option Content) (before now : ℕ) (entries : List Entry) (answers : List FileAnswer) → AreRead known before now entries answers
@@ -87,11 +87,11 @@ module _ (offset : ℤ) where
   read_tells known before now (entry ∷ entries) [] none = absurd none
   read_tells known before now (entry ∷ entries) (answer ∷ answers) turn =
       rw (sym (first_failures answer answers))
-      (tells_or (is_failed (listed entry.path (outcome offset answer))) (list_any is_failed (read_findings offset entries answers)) (failures (answer ∷ [])) (failures answers)
+      (tells_or (is_failed (listed entry.path (import_result offset answer))) (list_any is_failed (read_findings offset entries answers)) (failures (answer ∷ [])) (failures answers)
       (listed_tells entry.path answer) (read_tells known turn.0 now entries answers turn.2))
 
   found_tells : (known : Option Content) (before now : ℕ) (path : PathBytes) (found : PathResult) → IsFound known before now path found → Tells (list_any is_failed (found_findings offset path found)) (found_failures found)
-  found_tells known before now path (file answer) asked = rw (or_false (is_failed (named path (outcome offset answer)))) (named_tells path answer)
+  found_tells known before now path (file answer) asked = rw (or_false (is_failed (named path (import_result offset answer)))) (named_tells path answer)
   found_tells known before now path unfound asked = tells_one
   found_tells known before now path (folder entries answers) asked = read_tells known before now entries answers asked.2
   found_tells known before now path unlisted asked = tells_one

@@ -6,7 +6,7 @@ use Rattle.std.proofs.lemmas.List.{map-append}
 use Rattle.md_value.specs.Values.{PathBytes}
 use Rattle.md_source.specs.Tree.{Content}
 use Rattle.md_source.specs.declared.tree.Entry.{Entry}
-use Rattle.md_files.specs.Answers.{FileAnswer, HasNoFile, IsEntry, IsRead, Gives, outcome}
+use Rattle.md_files.specs.FileAnswers.{FileAnswer, HasNoFile, IsEntry, IsRead, Gives, import_result}
 use Rattle.md_files.specs.Folders.{PathResult, IsFound, IsListed, AreFound, AreRead}
 use Rattle.md_files.specs.Folders.PathResult.{file, folder}
 use Rattle.md_files.specs.Findings.{Finding, read_findings, found_findings, all_findings, asked_count}
@@ -19,10 +19,10 @@ use Rattle.md_files.proofs.Turns.{in_turn_more, zip_more}
 
 module _ (known : Option Content) (before : ℕ) (offset : ℤ) where
   read_more : (between : ℕ) (entries : List Entry) (answers : List FileAnswer) (entry : Entry) (answer : FileAnswer) → AreRead known before between entries answers
-      → read_findings offset (entries ++ entry ∷ []) (answers ++ answer ∷ []) ≡ read_findings offset entries answers ++ listed entry.path (outcome offset answer) ∷ []
+      → read_findings offset (entries ++ entry ∷ []) (answers ++ answer ∷ []) ≡ read_findings offset entries answers ++ listed entry.path (import_result offset answer) ∷ []
   read_more between entries answers entry answer turn =
-      ap (map (λ (pair : Entry × FileAnswer). listed pair.0.path (outcome offset pair.1))) (zip_more (IsRead known) before between entries answers entry answer turn)
-      ∙ map-append (λ (pair : Entry × FileAnswer). listed pair.0.path (outcome offset pair.1)) (zip entries answers) ((entry, answer) ∷ [])
+      ap (map (λ (pair : Entry × FileAnswer). listed pair.0.path (import_result offset pair.1))) (zip_more (IsRead known) before between entries answers entry answer turn)
+      ∙ map-append (λ (pair : Entry × FileAnswer). listed pair.0.path (import_result offset pair.1)) (zip entries answers) ((entry, answer) ∷ [])
 
   found_more : (between : ℕ) (paths : List PathBytes) (all : List PathResult) (path : PathBytes) (found : PathResult) → AreFound known before between paths all
       → all_findings offset (paths ++ path ∷ []) (all ++ found ∷ []) ≡ all_findings offset paths all ++ found_findings offset path found
@@ -39,7 +39,7 @@ module _ (known : Option Content) (before : ℕ) (offset : ℤ) where
       → Gives (IsRead known between now entry) offset given
       → CountsFiles known before now offset (entries ++ entry ∷ []) old (noted (record mid { out = mid.out ++ asked_count entry.path given }) (listed entry.path given))
   files_more between now entries old mid entry given so gives =
-      let f = listed entry.path (outcome offset gives.answer) in
+      let f = listed entry.path (import_result offset gives.answer) in
       record {
         answers = so.answers ++ gives.answer ∷ [];
         asked = in_turn_more (IsRead known) before between now entries so.answers entry gives.answer so.asked gives.answers;
@@ -57,7 +57,7 @@ module _ (known : Option Content) (before : ℕ) (offset : ℤ) where
       record {
         found = file so.answer;
         asked = (entry, is_entry, so.asked);
-        is = so.is ∙ counted_one old (named entry.path (outcome offset so.answer)) ∙ ap (λ (p : PathBytes). counted_all old (named p (outcome offset so.answer) ∷ [])) is_entry.named;
+        is = so.is ∙ counted_one old (named entry.path (import_result offset so.answer)) ∙ ap (λ (p : PathBytes). counted_all old (named p (import_result offset so.answer) ∷ [])) is_entry.named;
       }
 
   -- the files below the folder of a path

@@ -1,11 +1,11 @@
--- How many askings failed, and how the count of faults went with that.
+-- How many askings failed, and how the count of failures went with that.
 use Rattle.std.proofs.Common.{◌≡◌, ℕ, ◌+◌, ◌-◌, ◌^◌, ◌≤◌, min, cond, List, [], ◌∷◌, sym, ◌∙◌, Option, arith}
 use Rattle.std.proofs.lemmas.List.Sums.{sum_by-append}
 use Rattle.md_value.specs.Values.{PathBytes}
 use Rattle.md_source.specs.Tree.{Content}
 use Rattle.md_source.specs.declared.tree.Entry.{Entry}
-use Rattle.md_files.specs.Answers.{FileAnswer, IsAsked, IsRead, InTurn, AreAsked, Fails, IsCounted, has_failed, failures}
-use Rattle.md_files.specs.Answers.FileAnswer.{given, absent, failed}
+use Rattle.md_files.specs.FileAnswers.{FileAnswer, IsAsked, IsRead, InTurn, AreAsked, Fails, IsCounted, has_failed, failures}
+use Rattle.md_files.specs.FileAnswers.FileAnswer.{given, absent, failed}
 use Rattle.md_files.specs.Folders.{PathResult, IsFound, AreFound, found_failures, all_failures}
 use Rattle.md_files.specs.Folders.PathResult.{file, unfound, folder, unlisted, nothing}
 

@@ -7,8 +7,8 @@ use Rattle.std.proofs.lemmas.List.Elements.{filter_map-append}
 use Rattle.md_value.specs.Attrs.{Attr}
 use Rattle.md_value.specs.Values.{PathBytes}
 use Rattle.md_source.specs.Tree.{Content}
-use Rattle.md_print.specs.Attributes.{attrs_text}
-use Rattle.md_files.specs.Answers.{FileAnswer, IsAsked, AreAsked, Gives, outcome}
+use Rattle.md_file_text.specs.Attributes.{attrs_text}
+use Rattle.md_files.specs.FileAnswers.{FileAnswer, IsAsked, AreAsked, Gives, import_result}
 use Rattle.md_files.specs.Findings.{Finding, asked_findings, err_line, separator, shown_text, given_attrs, attrs_of}
 use Rattle.md_files.specs.Findings.Finding.{named}
 use Rattle.md_files.specs.Reports.{FileReport, Shows, report_of, shown}
@@ -82,10 +82,10 @@ module _ (known : Option Content) (before : ℕ) (offset : ℤ) (raw : Bool) (ma
   showing_none = record { answers = []; asked = refl; is = refl; some_is = refl }
 
   findings_more : (between : ℕ) (paths : List PathBytes) (answers : List FileAnswer) (path : PathBytes) (answer : FileAnswer) → AreAsked known before between paths answers
-      → asked_findings offset (paths ++ path ∷ []) (answers ++ answer ∷ []) ≡ asked_findings offset paths answers ++ named path (outcome offset answer) ∷ []
+      → asked_findings offset (paths ++ path ∷ []) (answers ++ answer ∷ []) ≡ asked_findings offset paths answers ++ named path (import_result offset answer) ∷ []
   findings_more between paths answers path answer turn =
-      ap (map (λ (pair : PathBytes × FileAnswer). named pair.0 (outcome offset pair.1))) (zip_more (IsAsked known) before between paths answers path answer turn)
-      ∙ map-append (λ (pair : PathBytes × FileAnswer). named pair.0 (outcome offset pair.1)) (zip paths answers) ((path, answer) ∷ [])
+      ap (map (λ (pair : PathBytes × FileAnswer). named pair.0 (import_result offset pair.1))) (zip_more (IsAsked known) before between paths answers path answer turn)
+      ∙ map-append (λ (pair : PathBytes × FileAnswer). named pair.0 (import_result offset pair.1)) (zip paths answers) ((path, answer) ∷ [])
 
   -- with one file more
   pub showing_more : (between now : ℕ) (paths : List PathBytes) (report : FileReport) (some : Bool) (path : PathBytes) (given : ImportResult) → IsShowing known before between offset raw marker names paths report some
@@ -97,6 +97,6 @@ module _ (known : Option Content) (before : ℕ) (offset : ℤ) (raw : Bool) (ma
       record {
         answers = so.answers ++ gives.answer ∷ [];
         asked = in_turn_more (IsAsked known) before between now paths so.answers path gives.answer so.asked gives.answers;
-        is = rw (so.is, so.some_is, gives.is, more) (report_more raw marker names fs path (outcome offset gives.answer));
-        some_is = rw (so.some_is, gives.is, more) (some_more fs path (outcome offset gives.answer));
+        is = rw (so.is, so.some_is, gives.is, more) (report_more raw marker names fs path (import_result offset gives.answer));
+        some_is = rw (so.some_is, gives.is, more) (some_more fs path (import_result offset gives.answer));
       }

@@ -2,7 +2,7 @@
 use Rattle.std.proofs.Common.{◌≡◌, ◌+◌, ◌∙◌, ℕ, List, [], ◌∷◌, ◌++◌, take, drop, append_assoc, refl, sym, ap, subst}
 use Rattle.std.specs.List.{zip}
 use Rattle.std.proofs.lemmas.List.{take-append-drop}
-use Rattle.md_files.specs.Answers.{InTurn, InTurnSoFar}
+use Rattle.md_files.specs.FileAnswers.{InTurn, InTurnSoFar}
 
 module _ {A B : Type 0} (Asks : ℕ → ℕ → A → B → Type 0) where
   pub in_turn_more : (before between now : ℕ) (xs : List A) (ys : List B) (x : A) (y : B) → InTurn Asks before between xs ys → Asks between now x y

@@ -4,8 +4,8 @@ use Rattle.std.specs.List.{flat_map}
 use Rattle.md_value.specs.Values.{PathBytes}
 use Rattle.md_source.specs.Tree.{Content}
 use Rattle.md_source.specs.declared.tree.Entry.{Entry}
-use Rattle.md_print.specs.Attributes.{attrs_text}
-use Rattle.md_files.specs.Answers.{FileAnswer, IsRead, outcome}
+use Rattle.md_file_text.specs.Attributes.{attrs_text}
+use Rattle.md_files.specs.FileAnswers.{FileAnswer, IsRead, import_result}
 use Rattle.md_files.specs.Folders.{PathResult, IsFound, AreRead}
 use Rattle.md_files.specs.Findings.Finding.{named}
 use Rattle.md_files.specs.Findings.{Finding, read_findings, found_findings, err_line, end_of, separator, count_line}
@@ -53,7 +53,7 @@ next_text some raw marker names _ = []
 pub record CountsFile (known : Option Content) (before now : ℕ) (offset : ℤ) (entry : Entry) (old new : FileReport) : Type 0 where
   pub answer : FileAnswer
   pub asked : IsRead known before now entry answer
-  pub is : new ≡ counted old (named entry.path (outcome offset answer))
+  pub is : new ≡ counted old (named entry.path (import_result offset answer))
 
 -- the files of a listing were asked for in turn, and what became of them was added
 pub record CountsFiles (known : Option Content) (before now : ℕ) (offset : ℤ) (entries : List Entry) (old new : FileReport) : Type 0 where

@@ -5,11 +5,11 @@ use Rattle.std.specs.List.{zip, flat_map, filter_map, list_any, join_by}
 use Rattle.md_value.specs.Values.{PathBytes}
 use Rattle.md_value.specs.Attrs.{Attr}
 use Rattle.md_source.specs.declared.tree.Entry.{Entry}
-use Rattle.md_print.specs.Attributes.{attrs_text}
-use Rattle.md_print.specs.Faults.{fault_text, failure_text}
-use Rattle.md_print.specs.Paths.{escaped}
-use Rattle.md_print.specs.declared.faults.Failure.TheVariants as failure
-use Rattle.md_files.specs.Answers.{FileAnswer, outcome}
+use Rattle.md_file_text.specs.Attributes.{attrs_text}
+use Rattle.md_file_text.specs.Faults.{fault_text, failure_text}
+use Rattle.md_file_text.specs.Paths.{escaped}
+use Rattle.md_file_text.specs.declared.faults.Failure.TheVariants as failure
+use Rattle.md_files.specs.FileAnswers.{FileAnswer, import_result}
 use Rattle.md_files.specs.Folders.{PathResult}
 use Rattle.md_files.specs.Folders.PathResult.{file, unfound, folder, unlisted, nothing}
 use Rattle.md_files.specs.declared.asking.ImportResult.{ImportResult}
@@ -25,15 +25,15 @@ pub data Finding : Type 0 where
 
 -- of files that were asked for by their paths
 abbrev pub asked_findings : ℤ → List PathBytes → List FileAnswer → List Finding
-asked_findings offset paths answers = map (λ pair. named pair.0 (outcome offset pair.1)) (zip paths answers)
+asked_findings offset paths answers = map (λ pair. named pair.0 (import_result offset pair.1)) (zip paths answers)
 
 -- of the files of a listing
 abbrev pub read_findings : ℤ → List Entry → List FileAnswer → List Finding
-read_findings offset entries answers = map (λ pair. listed pair.0.path (outcome offset pair.1)) (zip entries answers)
+read_findings offset entries answers = map (λ pair. listed pair.0.path (import_result offset pair.1)) (zip entries answers)
 
 -- of what a path stands for
 abbrev pub found_findings : ℤ → PathBytes → PathResult → List Finding
-found_findings offset path (file answer) = named path (outcome offset answer) ∷ []
+found_findings offset path (file answer) = named path (import_result offset answer) ∷ []
 found_findings offset path unfound = named path asked.Failed ∷ []
 found_findings offset path (folder entries answers) = read_findings offset entries answers
 found_findings offset path unlisted = no_listing path ∷ []

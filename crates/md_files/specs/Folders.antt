@@ -3,7 +3,7 @@ use Rattle.std.specs.Prelude.{◌≡◌, ℕ, ◌+◌, true, false, List, [], �
 use Rattle.md_value.specs.Values.{PathBytes, is_before}
 use Rattle.md_source.specs.Tree.{Content, IsListing, has_folder, entries_below}
 use Rattle.md_source.specs.declared.tree.Entry.{Entry}
-use Rattle.md_files.specs.Answers.{FileAnswer, Fails, IsEntry, HasNoFile, IsRead, InTurn, InTurnSoFar, failures}
+use Rattle.md_files.specs.FileAnswers.{FileAnswer, Fails, IsEntry, HasNoFile, IsRead, InTurn, InTurnSoFar, failures}
 
 -- what a path stands for: a file with the answer to its asking, or a file that could not be found; where there is no file,
 -- the files of a folder with the answers to their askings, a folder that could not be listed, or nothing
@@ -44,7 +44,7 @@ AreFound known before now paths found = InTurn (IsFound known) before now paths 
 -- How far the asking of what a path stands for came: no call failed; the file or the folder could not be asked for; or the
 -- file, or some of the first files below the folder, were asked for in turn.
 pub data IsFoundSoFar (known : Option Content) (before now : ℕ) (path : PathBytes) : Type 0 where
-  without_fault : now ≡ before → IsFoundSoFar known before now path
+  without_failure : now ≡ before → IsFoundSoFar known before now path
   refused : Fails before now → IsFoundSoFar known before now path
   in_file : (entry : Entry) → IsEntry known path entry → InTurnSoFar (IsRead known) before now (entry ∷ []) → IsFoundSoFar known before now path
   in_folder : (entries : List Entry) → HasNoFile known path → IsListed known path entries → InTurnSoFar (IsRead known) before now entries → IsFoundSoFar known before now path

@@ -1,4 +1,4 @@
-pub mod Answers
+pub mod FileAnswers
 pub mod Folders
 pub mod Findings
 pub mod Reports

@@ -3,7 +3,7 @@ use Rattle.std.specs.Prelude.{◌≡◌, ℕ, ℤ, Bool, ◌||◌, List, is_some
 use Rattle.std.specs.List.{flat_map, list_all}
 use Rattle.md_value.specs.Values.{PathBytes}
 use Rattle.md_source.specs.Tree.{Content, has_folder, file_at}
-use Rattle.md_files.specs.Answers.{FileAnswer, Fails, AreAsked}
+use Rattle.md_files.specs.FileAnswers.{FileAnswer, Fails, AreAsked}
 use Rattle.md_files.specs.Folders.{PathResult, AreFound}
 use Rattle.md_files.specs.Findings.{Finding, asked_findings, all_findings, err_line, end_of, shown_text, count_line}
 use Rattle.md_files.specs.declared.report.End.{End}
@@ -41,7 +41,7 @@ pub record Imports (known : Option Content) (before now : ℕ) (offset : ℤ) (p
   pub asked : AreFound known before now paths found
   pub is : report ≡ imported offset paths found
 
--- the count of faults rose where some asking failed, and stands where none did
+-- the count of failures rose where some asking failed, and stands where none did
 abbrev pub EndHasCause : ℕ → ℕ → End → Type 0
 EndHasCause before now ended.Ok = now ≡ before
 EndHasCause before now ended.Failed = Fails before now

@@ -3,7 +3,7 @@ ghost use Rattle.std.specs.Prelude.{◌≡◌, ◌≤◌, true, false, IfOk, OnE
 ghost use Rattle.md_value.specs.Values.{IsMoment};
 ghost use Rattle.md_source.specs.Tree.{ReadHasCause};
 ghost use Rattle.imp_kind.specs.Imports as imports;
-ghost use Rattle.md_files.specs.Answers.{IsAsked, IsRead, IsPrefix, HasNoFile, Gives, is_read, of_import};
+ghost use Rattle.md_files.specs.FileAnswers.{IsAsked, IsRead, IsPrefix, HasNoFile, Gives, is_read, of_import};
 
 use imp_kind::{FileKind, Imported, import, kind_of};
 use md_source::{Entry, ReadEnd, Tree};
@@ -33,7 +33,7 @@ pub fn read_prefix<T: Tree>(alloc: Global, tree: &mut T, path: &Path) -> Result<
     ensures absent { IsErrOf result ReadEnd.Absent → HasNoFile (T.content tree.old) path.now }
     ensures read_absent { IsErrOf result ReadEnd.Absent → is_read path.now ≡ true }
     ensures read_failed { IsErrOf result ReadEnd.Failed → is_read path.now ≡ true }
-    ensures cause { ReadHasCause (T.faults tree.old) (T.faults tree.new) result }
+    ensures cause { ReadHasCause (T.failures tree.old) (T.failures tree.new) result }
     ensures content { T.content tree.new ≡ T.content tree.old }
 {
     match kind_of(path) {
@@ -68,9 +68,9 @@ pub(crate) fn read_file<T: Tree>(
     offset: i32,
 ) -> Result<ImportResult, AllocError>
     requires { IsMoment entry.now.changed }
-    ensures asked { IfOk result (λ asked. Gives (IsRead (T.content tree.old) (T.faults tree.old) (T.faults tree.new) entry.now) offset asked) }
-    ensures kept { OnErr result (T.faults tree.new ≡ T.faults tree.old) }
-    ensures later { T.faults tree.old ≤ T.faults tree.new }
+    ensures asked { IfOk result (λ asked. Gives (IsRead (T.content tree.old) (T.failures tree.old) (T.failures tree.new) entry.now) offset asked) }
+    ensures kept { OnErr result (T.failures tree.new ≡ T.failures tree.old) }
+    ensures later { T.failures tree.old ≤ T.failures tree.new }
     ensures content { T.content tree.new ≡ T.content tree.old }
 {
     match read_prefix(alloc, tree, &entry.path) {
@@ -92,9 +92,9 @@ pub fn ask_file<T: Tree>(
     path: &Path,
     offset: i32,
 ) -> Result<ImportResult, AllocError>
-    ensures asked { IfOk result (λ asked. Gives (IsAsked (T.content tree.old) (T.faults tree.old) (T.faults tree.new) path.now) offset asked) }
-    ensures kept { OnErr result (T.faults tree.new ≡ T.faults tree.old) }
-    ensures later { T.faults tree.old ≤ T.faults tree.new }
+    ensures asked { IfOk result (λ asked. Gives (IsAsked (T.content tree.old) (T.failures tree.old) (T.failures tree.new) path.now) offset asked) }
+    ensures kept { OnErr result (T.failures tree.new ≡ T.failures tree.old) }
+    ensures later { T.failures tree.old ≤ T.failures tree.new }
     ensures content { T.content tree.new ≡ T.content tree.old }
 {
     match tree.find(alloc, path) {

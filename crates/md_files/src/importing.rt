@@ -2,7 +2,7 @@
 ghost use Rattle.std.specs.Prelude.{◌≡◌, ◌≤◌, ◌≢◌, ◌∷◌, ◌++◌, [], true, false, All, AllPairs, IfOk, IfSome, IsPermutation, OnOk};
 ghost use Rattle.md_value.specs.Values.{IsMoment, is_before};
 ghost use Rattle.md_source.specs.Causes.{Rose};
-ghost use Rattle.md_files.specs.Answers.{HasNoFile, IsRead, InTurnSoFar};
+ghost use Rattle.md_files.specs.FileAnswers.{HasNoFile, IsRead, InTurnSoFar};
 ghost use Rattle.md_files.specs.Findings.{asked_count};
 ghost use Rattle.md_files.specs.Folders.{IsFoundSoFar, AreFoundSoFar};
 ghost use Rattle.md_files.specs.Reports.{Imports, EndHasCause, tells_all};
@@ -10,7 +10,7 @@ ghost use Rattle.md_files.specs.Additions.{CountsFile, CountsFiles, CountsPath};
 
 use crate::asking::read_file;
 use crate::{End, FileReport, ImportResult};
-use md_print::escaped;
+use md_file_text::escaped;
 use md_source::{Entry, ListEnd, ReadEnd, Tree};
 use md_value::Path;
 use std::alloc::{AllocError, Global};
@@ -52,9 +52,9 @@ fn import_file<T: Tree>(
     report: &mut FileReport,
 ) -> Result<(), AllocError>
     requires { IsMoment entry.now.changed }
-    ensures counts { OnOk result (CountsFile (T.content tree.old) (T.faults tree.old) (T.faults tree.new) offset entry.now report.old report.new) }
-    ensures so_far { InTurnSoFar (IsRead (T.content tree.old)) (T.faults tree.old) (T.faults tree.new) (entry.now ∷ []) }
-    ensures later { T.faults tree.old ≤ T.faults tree.new }
+    ensures counts { OnOk result (CountsFile (T.content tree.old) (T.failures tree.old) (T.failures tree.new) offset entry.now report.old report.new) }
+    ensures so_far { InTurnSoFar (IsRead (T.content tree.old)) (T.failures tree.old) (T.failures tree.new) (entry.now ∷ []) }
+    ensures later { T.failures tree.old ≤ T.failures tree.new }
     ensures content { T.content tree.new ≡ T.content tree.old }
 {
     let asked = read_file(alloc, tree, entry, offset)?;
@@ -71,9 +71,9 @@ fn import_files<T: Tree>(
     report: &mut FileReport,
 ) -> Result<(), AllocError>
     requires { All (λ entry. IsMoment entry.changed) entries.now }
-    ensures counts { OnOk result (CountsFiles (T.content tree.old) (T.faults tree.old) (T.faults tree.new) offset entries.now report.old report.new) }
-    ensures so_far { InTurnSoFar (IsRead (T.content tree.old)) (T.faults tree.old) (T.faults tree.new) entries.now }
-    ensures later { T.faults tree.old ≤ T.faults tree.new }
+    ensures counts { OnOk result (CountsFiles (T.content tree.old) (T.failures tree.old) (T.failures tree.new) offset entries.now report.old report.new) }
+    ensures so_far { InTurnSoFar (IsRead (T.content tree.old)) (T.failures tree.old) (T.failures tree.new) entries.now }
+    ensures later { T.failures tree.old ≤ T.failures tree.new }
     ensures content { T.content tree.new ≡ T.content tree.old }
 {
     for entry in entries {
@@ -93,9 +93,9 @@ fn import_folder<T: Tree>(
     report: &mut FileReport,
 ) -> Result<(), AllocError>
     requires { HasNoFile (T.content tree.old) path.now }
-    ensures counts { OnOk result (CountsPath (T.content tree.old) (T.faults tree.old) (T.faults tree.new) offset path.now report.old report.new) }
-    ensures so_far { IsFoundSoFar (T.content tree.old) (T.faults tree.old) (T.faults tree.new) path.now }
-    ensures later { T.faults tree.old ≤ T.faults tree.new }
+    ensures counts { OnOk result (CountsPath (T.content tree.old) (T.failures tree.old) (T.failures tree.new) offset path.now report.old report.new) }
+    ensures so_far { IsFoundSoFar (T.content tree.old) (T.failures tree.old) (T.failures tree.new) path.now }
+    ensures later { T.failures tree.old ≤ T.failures tree.new }
     ensures content { T.content tree.new ≡ T.content tree.old }
 {
     match tree.list(alloc, path) {
@@ -117,9 +117,9 @@ fn import_path<T: Tree>(
     path: &Path,
     report: &mut FileReport,
 ) -> Result<(), AllocError>
-    ensures counts { OnOk result (CountsPath (T.content tree.old) (T.faults tree.old) (T.faults tree.new) offset path.now report.old report.new) }
-    ensures so_far { IsFoundSoFar (T.content tree.old) (T.faults tree.old) (T.faults tree.new) path.now }
-    ensures later { T.faults tree.old ≤ T.faults tree.new }
+    ensures counts { OnOk result (CountsPath (T.content tree.old) (T.failures tree.old) (T.failures tree.new) offset path.now report.old report.new) }
+    ensures so_far { IsFoundSoFar (T.content tree.old) (T.failures tree.old) (T.failures tree.new) path.now }
+    ensures later { T.failures tree.old ≤ T.failures tree.new }
     ensures content { T.content tree.new ≡ T.content tree.old }
 {
     match tree.find(alloc, path) {
@@ -143,18 +143,18 @@ pub fn import<T: Tree>(
     offset: i32,
     files: &[Path],
 ) -> Result<FileReport, AllocError>
-    ensures imports { IfOk result (λ report. Imports (T.content tree.old) (T.faults tree.old) (T.faults tree.new) offset files.now report) }
+    ensures imports { IfOk result (λ report. Imports (T.content tree.old) (T.failures tree.old) (T.failures tree.new) offset files.now report) }
     // Also where memory runs out.
-    ensures so_far { AreFoundSoFar (T.content tree.old) (T.faults tree.old) (T.faults tree.new) files.now }
-    ensures cause { IfOk result (λ report. EndHasCause (T.faults tree.old) (T.faults tree.new) report.end) }
-    ensures later { T.faults tree.old ≤ T.faults tree.new }
+    ensures so_far { AreFoundSoFar (T.content tree.old) (T.failures tree.old) (T.failures tree.new) files.now }
+    ensures cause { IfOk result (λ report. EndHasCause (T.failures tree.old) (T.failures tree.new) report.end) }
+    ensures later { T.failures tree.old ≤ T.failures tree.new }
     ensures content { T.content tree.new ≡ T.content tree.old }
 
     // Where the content is known.
     ensures absent { IfOk result (λ report. IfSome (T.content tree.old) (λ content.
         report.end ≡ End.Absent → tells_all content files.now ≡ false)) }
     ensures complete { IfOk result (λ report. IfSome (T.content tree.old) (λ content.
-        tells_all content files.now ≡ true → ¬ (Rose (T.faults tree.old) (T.faults tree.new)) → report.end ≡ End.Ok)) }
+        tells_all content files.now ≡ true → ¬ (Rose (T.failures tree.old) (T.failures tree.new)) → report.end ≡ End.Ok)) }
 {
     let mut report = FileReport::new(alloc);
     for path in files {

@@ -2,16 +2,16 @@
 ghost use Rattle.std.specs.Prelude.{[], ◌∷◌, ℕ, List, Option};
 ghost use Rattle.md_value.specs.Values.{PathBytes};
 ghost use Rattle.md_source.specs.Tree.{Content};
-ghost use Rattle.md_files.specs.Answers.{FileAnswer, IsAsked, AreAsked, IsCounted, failures};
+ghost use Rattle.md_files.specs.FileAnswers.{FileAnswer, IsAsked, AreAsked, IsCounted, failures};
 ghost use Rattle.md_files.specs.Folders.{PathResult, AreFound, all_failures};
 
-/// The asking of a file by its path failed only where the count of faults rose, which stands where it did not.
+/// The asking of a file by its path failed only where the count of failures rose, which stands where it did not.
 pub fn an_asking_is_counted()
     ensures { (known : Option Content) (before now : ℕ) (path : PathBytes) (answer : FileAnswer)
         → IsAsked known before now path answer → IsCounted before now (failures (answer ∷ [])) }
 {}
 
-/// Of several, no more failed than the count of faults rose by, unless it stands at its type's end; and it stands where
+/// Of several, no more failed than the count of failures rose by, unless it stands at its type's end; and it stands where
 /// none failed.
 pub fn askings_are_counted()
     ensures { (known : Option Content) (before now : ℕ) (paths : List PathBytes) (answers : List FileAnswer)

@@ -5,7 +5,7 @@
 //! than an absent path. [`show`] makes it of files and [`import`] of files and folders, which they ask a tree for in turn;
 //! [`ask_file`] asks for one file and imports it. Their contracts say which answers of the tree a report is of, when each
 //! end comes, and that all is printed where all is known and no call failed. No more askings failed than the tree's count of
-//! faults rose by, as `laws` says.
+//! failures rose by, as `laws` says.
 #![tactic(auto)]
 
 mod asking;

@@ -1,11 +1,11 @@
 // What a tool makes of files.
 ghost use Rattle.std.specs.Prelude.{◌≡◌, ◌∷◌, ◌++◌, OnOk};
-ghost use Rattle.md_print.specs.Faults.{fault_text, failure_text};
+ghost use Rattle.md_file_text.specs.Faults.{fault_text, failure_text};
 ghost use Rattle.md_files.specs.Findings.Finding.{named, listed, no_listing};
 ghost use Rattle.md_files.specs.Additions.{no_report, worse, noted};
 
 use crate::ImportResult;
-use md_print::{Failure, failure_text, fault_text};
+use md_file_text::{Failure, failure_text, fault_text};
 use md_value::{Fault, Path};
 use std::alloc::{AllocError, Global};
 use std::marker::Model;

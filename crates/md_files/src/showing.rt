@@ -1,13 +1,13 @@
 // The attributes of files.
 ghost use Rattle.std.specs.Prelude.{◌≡◌, ◌≤◌, ◌++◌, ◌||◌, true, false, is_some, IfOk, IfSome, OnOk};
 ghost use Rattle.md_source.specs.Causes.{Rose};
-ghost use Rattle.md_files.specs.Answers.{IsAsked, InTurnSoFar};
+ghost use Rattle.md_files.specs.FileAnswers.{IsAsked, InTurnSoFar};
 ghost use Rattle.md_files.specs.Findings.{separator, given_attrs};
 ghost use Rattle.md_files.specs.Reports.{Shows, EndHasCause, tells_files};
 ghost use Rattle.md_files.specs.Additions.{next_text};
 
 use crate::{End, FileReport, ImportResult, ask_file};
-use md_print::attrs_text;
+use md_file_text::attrs_text;
 use md_source::Tree;
 use md_value::{Name, Path};
 use std::alloc::{AllocError, Global};
@@ -60,18 +60,18 @@ pub fn show<T: Tree>(
     names: &[Name],
     files: &[Path],
 ) -> Result<FileReport, AllocError>
-    ensures shows { IfOk result (λ report. Shows (T.content tree.old) (T.faults tree.old) (T.faults tree.new) offset raw marker.now names.now files.now report) }
+    ensures shows { IfOk result (λ report. Shows (T.content tree.old) (T.failures tree.old) (T.failures tree.new) offset raw marker.now names.now files.now report) }
     // Also where memory runs out.
-    ensures so_far { InTurnSoFar (IsAsked (T.content tree.old)) (T.faults tree.old) (T.faults tree.new) files.now }
-    ensures cause { IfOk result (λ report. EndHasCause (T.faults tree.old) (T.faults tree.new) report.end) }
-    ensures later { T.faults tree.old ≤ T.faults tree.new }
+    ensures so_far { InTurnSoFar (IsAsked (T.content tree.old)) (T.failures tree.old) (T.failures tree.new) files.now }
+    ensures cause { IfOk result (λ report. EndHasCause (T.failures tree.old) (T.failures tree.new) report.end) }
+    ensures later { T.failures tree.old ≤ T.failures tree.new }
     ensures content { T.content tree.new ≡ T.content tree.old }
 
     // Where the content is known.
     ensures absent { IfOk result (λ report. IfSome (T.content tree.old) (λ content.
         report.end ≡ End.Absent → tells_files content files.now ≡ false)) }
     ensures complete { IfOk result (λ report. IfSome (T.content tree.old) (λ content.
-        tells_files content files.now ≡ true → ¬ (Rose (T.faults tree.old) (T.faults tree.new)) → report.end ≡ End.Ok)) }
+        tells_files content files.now ≡ true → ¬ (Rose (T.failures tree.old) (T.failures tree.new)) → report.end ≡ End.Ok)) }
 {
     let mut report = FileReport::new(alloc);
     let mut some = false;

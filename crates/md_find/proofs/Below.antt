@@ -22,4 +22,4 @@ pub finds_below : (known : Option Content) (before now : ℕ) (search : Search) 
     → (found : SearchResult) → FindsBelow known before now query output found → Finds known before now search output found
 finds_below known before now search query output is none found below =
     let finds : FindsBelow known before now (query_of search) output found = subst (λ q. FindsBelow known before now q output found) is below in
-    subst (Finds known before now search output) (sym finds.is) (asks finds.folder none finds.held)
+    subst (Finds known before now search output) (sym finds.is) (asks finds.folder none finds.is_folder)

@@ -8,7 +8,7 @@ use Rattle.md_source.specs.declared.tree.Entry.{Entry}
 use Rattle.md_world.specs.declared.Row.{Row}
 use Rattle.md_world.specs.Differences.{paths_of}
 use Rattle.md_match.specs.Conditions.{Condition, passes}
-use Rattle.md_files.specs.Answers.{outcome}
+use Rattle.md_files.specs.FileAnswers.{outcome}
 use Rattle.md_files.specs.Findings.{Finding, read_findings, err_line, is_failed, is_absent}
 use Rattle.md_files.specs.Findings.Finding.{listed}
 use Rattle.md_files.specs.Additions.{worse}

@@ -10,7 +10,7 @@ use Rattle.md_world.specs.declared.Row.{Row}
 use Rattle.md_world.specs.Differences.{paths_of}
 use Rattle.md_match.specs.Conditions.{Condition, passes}
 use Rattle.md_files.specs.Additions.{no_report}
-use Rattle.md_files.specs.Answers.{FileAnswer, IsRead}
+use Rattle.md_files.specs.FileAnswers.{FileAnswer, IsRead}
 use Rattle.md_files.specs.Findings.{read_findings}
 use Rattle.md_files.specs.Folders.{AreRead}
 use Rattle.md_files.specs.Reports.{FileReport, report_of}
@@ -37,9 +37,9 @@ pub record Gathers (known : Option Content) (before now : ℕ) (condition : Cond
   pub found : hits ≡ passing condition (table_of condition.offset entries answers)
 
 -- with one batch more
-module _ (known : Option Content) (before between now : ℕ) (condition : Condition) (entries : List Entry) (old : FileReport) (held : List PathBytes) (gathers : Gathers known before between condition entries old held) where
+module _ (known : Option Content) (before between now : ℕ) (condition : Condition) (entries : List Entry) (old : FileReport) (kept : List PathBytes) (gathers : Gathers known before between condition entries old kept) where
   pub gathers_more : (files : List ReadFile) (new : FileReport) (hits : List PathBytes) → AreRead known between now (entries_of files) (answers_of files)
-      → new ≡ noted_all old (filter_map reason_of (map (seen_file condition) files)) → hits ≡ held ++ filter_map hit_of (map (seen_file condition) files)
+      → new ≡ noted_all old (filter_map reason_of (map (seen_file condition) files)) → hits ≡ kept ++ filter_map hit_of (map (seen_file condition) files)
       → Gathers known before now condition (entries ++ entries_of files) new hits
   gathers_more files new hits read is_new is_hits =
       let offset = condition.offset in

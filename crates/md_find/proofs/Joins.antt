@@ -5,7 +5,7 @@ use Rattle.std.proofs.lemmas.List.{map-append}
 use Rattle.std.proofs.lemmas.List.Elements.{filter_map-append}
 use Rattle.md_source.specs.Tree.{Content}
 use Rattle.md_source.specs.declared.tree.Entry.{Entry}
-use Rattle.md_files.specs.Answers.{FileAnswer, InTurn, InTurnSoFar, IsRead, outcome}
+use Rattle.md_files.specs.FileAnswers.{FileAnswer, InTurn, InTurnSoFar, IsRead, outcome}
 use Rattle.md_files.specs.Folders.{AreRead}
 use Rattle.md_files.specs.Findings.{read_findings}
 use Rattle.md_files.specs.Findings.Finding.{listed}

@@ -4,8 +4,8 @@ use Rattle.std.specs.List.{zip, filter_map}
 use Rattle.md_value.specs.Values.{PathBytes}
 use Rattle.md_source.specs.declared.tree.Entry.{Entry}
 use Rattle.md_world.specs.declared.Row.{Row}
-use Rattle.md_files.specs.Answers.{FileAnswer, outcome}
-use Rattle.md_files.specs.Answers.FileAnswer.{given, absent, failed}
+use Rattle.md_files.specs.FileAnswers.{FileAnswer, outcome}
+use Rattle.md_files.specs.FileAnswers.FileAnswer.{given, absent, failed}
 use Rattle.md_files.specs.Findings.{Finding}
 use Rattle.md_files.specs.Findings.Finding.{listed}
 use Rattle.md_files.specs.declared.asking.ImportResult.{ImportResult}

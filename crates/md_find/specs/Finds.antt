@@ -13,7 +13,7 @@ use Rattle.md_machine.specs.declared.Spec.{Spec}
 use Rattle.md_machine.specs.Answers.{no_batch}
 use Rattle.md_machine.specs.Answers as machine
 use Rattle.md_machine.specs.Answers.{answer}
-use Rattle.md_files.specs.Answers.{FileAnswer}
+use Rattle.md_files.specs.FileAnswers.{FileAnswer}
 use Rattle.md_files.specs.Folders.{AreRead}
 use Rattle.md_files.specs.Findings.{read_findings}
 use Rattle.md_files.specs.Findings.Finding.{named, no_listing}
@@ -26,7 +26,7 @@ use Rattle.md_find.specs.declared.finding.Output.TheVariants as output
 use Rattle.md_find.specs.declared.finding.SearchResult.{SearchResult}
 use Rattle.md_find.specs.declared.finding.SearchResult.TheVariants as found
 use Rattle.md_find.specs.Files.{table_of}
-use Rattle.md_find.specs.Folders.{Folder, files, unlisted, nothing, full, IsHeld}
+use Rattle.md_find.specs.Folders.{Folder, files, unlisted, nothing, full, IsFolder}
 
 -- the query of a search: all hits in one part
 abbrev pub query_of : Search → Spec
@@ -52,9 +52,9 @@ found_among query output entries answers = report_of (found_text output (hits qu
 
 -- what a query gives on a folder
 abbrev pub found_in : Spec → Output → Folder → SearchResult
-found_in query output (files entries answers) = found.Report (found_among query output entries answers)
-found_in query output unlisted = found.Report (report_of (found_text output []) (no_listing query.scope ∷ []))
-found_in query output nothing = found.Report (report_of (found_text output []) (named query.scope asked.Absent ∷ []))
+found_in query output (files entries answers) = found.Done (found_among query output entries answers)
+found_in query output unlisted = found.Done (report_of (found_text output []) (no_listing query.scope ∷ []))
+found_in query output nothing = found.Done (report_of (found_text output []) (named query.scope asked.Absent ∷ []))
 found_in query output full = found.Full
 
 -- the number of the first form of time of a search that is out of range
@@ -64,21 +64,21 @@ form_out search = option_map capped (first_out_of_range search.local.moment sear
 -- What a search gives: a form of time that is out of range, where the tree is not asked, or what its query gives on its folder.
 pub data Finds (known : Option Content) (before now : ℕ) (search : Search) (output : Output) : SearchResult → Type 0 where
   misdates : (which : ℕ) → form_out search ≡ Some which → now ≡ before → Finds known before now search output (found.OutOfRange which)
-  asks : (folder : Folder) → form_out search ≡ None → IsHeld known before now search.scope folder → Finds known before now search output (found_in (query_of search) output folder)
+  asks : (folder : Folder) → form_out search ≡ None → IsFolder known before now search.scope folder → Finds known before now search output (found_in (query_of search) output folder)
 
 -- the form of time that is reported to be out of range
 abbrev pub form_reported : SearchResult → Option ℕ
 form_reported (found.OutOfRange which) = Some which
 form_reported _ = None
 
--- the count of faults rose where some asking failed, and stands where none did
+-- the count of failures rose where some asking failed, and stands where none did
 abbrev pub HasCause : ℕ → ℕ → SearchResult → Type 0
-HasCause before now (found.Report report) = EndHasCause before now report.end
+HasCause before now (found.Done report) = EndHasCause before now report.end
 HasCause before now _ = now ≡ before
 
 -- it is a report that ends so
 abbrev pub EndsBy : SearchResult → End → Type 0
-EndsBy (found.Report report) end = report.end ≡ end
+EndsBy (found.Done report) end = report.end ≡ end
 EndsBy _ end = ⊥
 
 -- the files of a listing were asked for in turn, and this is found among them by a condition
@@ -96,5 +96,5 @@ pub record FindsAmong (known : Option Content) (before now : ℕ) (query : Spec)
 -- the query's folder was asked for, and this is found below it
 pub record FindsBelow (known : Option Content) (before now : ℕ) (query : Spec) (output : Output) (found : SearchResult) : Type 0 where
   pub folder : Folder
-  pub held : IsHeld known before now query.scope folder
+  pub is_folder : IsFolder known before now query.scope folder
   pub is : found ≡ found_in query output folder

@@ -3,7 +3,7 @@ use Rattle.std.specs.Prelude.{◌≡◌, ℕ, ◌≤◌, ◌<◌, List, length, 
 use Rattle.md_value.specs.Values.{PathBytes}
 use Rattle.md_source.specs.Tree.{Content, entries_below}
 use Rattle.md_source.specs.declared.tree.Entry.{Entry}
-use Rattle.md_files.specs.Answers.{FileAnswer, Fails, IsRead, InTurnSoFar, failures}
+use Rattle.md_files.specs.FileAnswers.{FileAnswer, Fails, IsRead, InTurnSoFar, failures}
 use Rattle.md_files.specs.Folders.{IsListed, HasNoFolder, AreRead}
 
 -- the most files of a folder that is searched
@@ -23,18 +23,18 @@ abbrev pub HasTooMany : Option Content → PathBytes → Type 0
 HasTooMany known path = IfSome known (λ content. most_files < length (entries_below content.files path))
 
 -- what a folder was found to hold
-abbrev pub IsHeld : Option Content → ℕ → ℕ → PathBytes → Folder → Type 0
-IsHeld known before now path (files entries answers) = IsListed known path entries × (length entries ≤ most_files) × AreRead known before now entries answers
-IsHeld known before now path unlisted = Fails before now
-IsHeld known before now path nothing = (now ≡ before) × HasNoFolder known path
-IsHeld known before now path full = (now ≡ before) × HasTooMany known path
+abbrev pub IsFolder : Option Content → ℕ → ℕ → PathBytes → Folder → Type 0
+IsFolder known before now path (files entries answers) = IsListed known path entries × (length entries ≤ most_files) × AreRead known before now entries answers
+IsFolder known before now path unlisted = Fails before now
+IsFolder known before now path nothing = (now ≡ before) × HasNoFolder known path
+IsFolder known before now path full = (now ≡ before) × HasTooMany known path
 
 -- How far the asking for the files below a folder came: no call failed; the folder could not be listed; or some of the first of
 -- its files, or all, were asked for in turn.
-pub data IsHeldSoFar (known : Option Content) (before now : ℕ) (path : PathBytes) : Type 0 where
-  without_fault : now ≡ before → IsHeldSoFar known before now path
-  in_listing : Fails before now → IsHeldSoFar known before now path
-  in_files : (entries : List Entry) → IsListed known path entries → length entries ≤ most_files → InTurnSoFar (IsRead known) before now entries → IsHeldSoFar known before now path
+pub data IsFolderSoFar (known : Option Content) (before now : ℕ) (path : PathBytes) : Type 0 where
+  without_failure : now ≡ before → IsFolderSoFar known before now path
+  in_listing : Fails before now → IsFolderSoFar known before now path
+  in_files : (entries : List Entry) → IsListed known path entries → length entries ≤ most_files → InTurnSoFar (IsRead known) before now entries → IsFolderSoFar known before now path
 
 -- how many askings failed: of the listing, or of its files
 abbrev pub folder_failures : Folder → ℕ

@@ -23,7 +23,7 @@ unfoldable pub looks_like_expression : List ℕ → Bool
 looks_like_expression text = list_any is_sign text || has_part (codes "InRange(") text
 
 -- The expression of a search text. By the law `literal_text_is_read` it is, by `Literal`, the one answer that the relation
--- `Answers` of md_expr allows.
+-- `IsVerdict` of md_expr allows.
 abbrev pub searched : Mode → List ℕ → Result Expr ReadError
 searched mode.Literal text = (reading_of text).answer
 searched mode.Plain text = interpreted text

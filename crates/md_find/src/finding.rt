@@ -4,11 +4,11 @@ ghost use Rattle.std.specs.List.{cons_option, filter_map};
 ghost use Rattle.md_value.specs.Values.{IsMoment};
 ghost use Rattle.md_source.specs.Causes.{Rose};
 ghost use Rattle.md_source.specs.Tree.{has_folder, entries_below};
-ghost use Rattle.md_files.specs.Answers.{IsRead, InTurnSoFar};
+ghost use Rattle.md_files.specs.FileAnswers.{IsRead, InTurnSoFar};
 ghost use Rattle.md_files.specs.Findings.Finding.{named, no_listing};
 ghost use Rattle.md_files.specs.Reports.{report_of};
 ghost use Rattle.md_find.specs.Files.{hit_of, reason_of};
-ghost use Rattle.md_find.specs.Folders.{most_files, IsHeldSoFar};
+ghost use Rattle.md_find.specs.Folders.{most_files, IsFolderSoFar};
 ghost use Rattle.md_find.specs.Notes.{noted_all};
 ghost use Rattle.md_find.specs.Finds.{found_text, FindsBy, FindsAmong, FindsBelow, Finds, HasCause, EndsBy, form_out, form_reported};
 
@@ -55,7 +55,7 @@ pub enum Output {
 #[derive(Debug, Drop)]
 pub enum SearchResult {
     /// What is printed, and how the askings of the tree ended.
-    Report(FileReport),
+    Done(FileReport),
     /// The folder has over 1,000,000 files.
     Full,
     /// The form of time of this number, from 1 in reading order, is the first whose moment is out of range, or the number
@@ -112,9 +112,9 @@ fn find_by<R: Threads + Sync, T: Tree>(
     output: Output,
 ) -> Result<FileReport, AllocError>
     requires { All (λ entry. IsMoment entry.changed) entries.now }
-    ensures found { IfOk result (λ report. FindsBy (T.content tree.old) (T.faults tree.old) (T.faults tree.new) filter.now output entries.now report) }
-    ensures so_far { InTurnSoFar (IsRead (T.content tree.old)) (T.faults tree.old) (T.faults tree.new) entries.now }
-    ensures later { T.faults tree.old ≤ T.faults tree.new }
+    ensures found { IfOk result (λ report. FindsBy (T.content tree.old) (T.failures tree.old) (T.failures tree.new) filter.now output entries.now report) }
+    ensures so_far { InTurnSoFar (IsRead (T.content tree.old)) (T.failures tree.old) (T.failures tree.new) entries.now }
+    ensures later { T.failures tree.old ≤ T.failures tree.new }
     ensures content { T.content tree.new ≡ T.content tree.old }
 {
     let mut report = FileReport::new(alloc);
@@ -143,9 +143,9 @@ fn find_among<R: Threads + Sync, T: Tree>(
     output: Output,
 ) -> Result<FileReport, AllocError>
     requires { All (λ entry. IsMoment entry.changed) entries.now }
-    ensures found { IfOk result (λ report. FindsAmong (T.content tree.old) (T.faults tree.old) (T.faults tree.new) spec.entry.now output entries.now report) }
-    ensures so_far { InTurnSoFar (IsRead (T.content tree.old)) (T.faults tree.old) (T.faults tree.new) entries.now }
-    ensures later { T.faults tree.old ≤ T.faults tree.new }
+    ensures found { IfOk result (λ report. FindsAmong (T.content tree.old) (T.failures tree.old) (T.failures tree.new) spec.entry.now output entries.now report) }
+    ensures so_far { InTurnSoFar (IsRead (T.content tree.old)) (T.failures tree.old) (T.failures tree.new) entries.now }
+    ensures later { T.failures tree.old ≤ T.failures tree.new }
     ensures content { T.content tree.new ≡ T.content tree.old }
 {
     let filter = Filter::of(alloc, &spec.expr, spec.now, spec.offset, &spec.scope)?;
@@ -186,9 +186,9 @@ fn find_below<R: Threads + Sync, T: Tree>(
     spec: Spec,
     output: Output,
 ) -> Result<SearchResult, AllocError>
-    ensures finds { IfOk result (λ found. FindsBelow (T.content tree.old) (T.faults tree.old) (T.faults tree.new) spec output found) }
-    ensures so_far { IsHeldSoFar (T.content tree.old) (T.faults tree.old) (T.faults tree.new) spec.scope }
-    ensures later { T.faults tree.old ≤ T.faults tree.new }
+    ensures finds { IfOk result (λ found. FindsBelow (T.content tree.old) (T.failures tree.old) (T.failures tree.new) spec output found) }
+    ensures so_far { IsFolderSoFar (T.content tree.old) (T.failures tree.old) (T.failures tree.new) spec.scope }
+    ensures later { T.failures tree.old ≤ T.failures tree.new }
     ensures content { T.content tree.new ≡ T.content tree.old }
 {
     match list_files(alloc, tree, &spec.scope) {
@@ -197,10 +197,10 @@ fn find_below<R: Threads + Sync, T: Tree>(
                 return Ok(SearchResult::Full);
             }
             let report = find_among(rt, alloc, tree, &entries, &spec, output)?;
-            Ok(SearchResult::Report(report))
+            Ok(SearchResult::Done(report))
         }
-        Err(ListEnd::Absent) => Ok(SearchResult::Report(absent(alloc, &spec.scope, output)?)),
-        Err(ListEnd::Failed) => Ok(SearchResult::Report(unlisted(alloc, &spec.scope, output)?)),
+        Err(ListEnd::Absent) => Ok(SearchResult::Done(absent(alloc, &spec.scope, output)?)),
+        Err(ListEnd::Failed) => Ok(SearchResult::Done(unlisted(alloc, &spec.scope, output)?)),
         Err(ListEnd::Memory) => Err(AllocError),
     }
 }
@@ -221,11 +221,11 @@ pub fn find<R: Threads + Sync, T: Tree>(
     search: Search,
     output: Output,
 ) -> Result<SearchResult, AllocError>
-    ensures finds { IfOk result (λ found. Finds (T.content tree.old) (T.faults tree.old) (T.faults tree.new) search output found) }
+    ensures finds { IfOk result (λ found. Finds (T.content tree.old) (T.failures tree.old) (T.failures tree.new) search output found) }
     // Also where memory runs out.
-    ensures so_far { IsHeldSoFar (T.content tree.old) (T.faults tree.old) (T.faults tree.new) search.scope }
-    ensures cause { IfOk result (λ found. HasCause (T.faults tree.old) (T.faults tree.new) found) }
-    ensures later { T.faults tree.old ≤ T.faults tree.new }
+    ensures so_far { IsFolderSoFar (T.content tree.old) (T.failures tree.old) (T.failures tree.new) search.scope }
+    ensures cause { IfOk result (λ found. HasCause (T.failures tree.old) (T.failures tree.new) found) }
+    ensures later { T.failures tree.old ≤ T.failures tree.new }
     ensures content { T.content tree.new ≡ T.content tree.old }
     // the form of time that is reported is the first that is out of range, and none is reported exactly where none is.
     ensures out_of_range { IfOk result (λ found. form_reported found ≡ form_out search) }
@@ -237,7 +237,7 @@ pub fn find<R: Threads + Sync, T: Tree>(
         EndsBy found End.Absent → has_folder content.folders search.scope ≡ false)) }
     ensures complete { IfOk result (λ found. IfSome (T.content tree.old) (λ content.
         has_folder content.folders search.scope ≡ true → length (entries_below content.files search.scope) ≤ most_files → form_out search ≡ None
-        → ¬ (Rose (T.faults tree.old) (T.faults tree.new)) → EndsBy found End.Ok)) }
+        → ¬ (Rose (T.failures tree.old) (T.failures tree.new)) → EndsBy found End.Ok)) }
 {
     let Search { expr, local, scope } = search;
     match Spec::new(

@@ -1,7 +1,7 @@
 // The files below a folder, listed and read one after the other.
 ghost use Rattle.std.specs.Prelude.{◌≡◌, ◌≤◌, IfOk, OnErr, IsErrOf};
 ghost use Rattle.md_source.specs.Tree.{ListHasCause};
-ghost use Rattle.md_files.specs.Answers.{IsRead, InTurnSoFar};
+ghost use Rattle.md_files.specs.FileAnswers.{IsRead, InTurnSoFar};
 ghost use Rattle.md_files.specs.Folders.{AreRead, HasNoFolder, IsListed};
 ghost use Rattle.md_find.specs.Files.{prefix_answer, entries_of, answers_of};
 
@@ -38,7 +38,7 @@ pub fn list_files<T: Tree>(
 ) -> Result<Vec<Entry>, ListEnd>
     ensures listed { IfOk result (λ entries. IsListed (T.content tree.old) folder.now entries.items) }
     ensures absent { IsErrOf result ListEnd.Absent → HasNoFolder (T.content tree.old) folder.now }
-    ensures cause { ListHasCause (T.faults tree.old) (T.faults tree.new) result }
+    ensures cause { ListHasCause (T.failures tree.old) (T.failures tree.new) result }
     ensures content { T.content tree.new ≡ T.content tree.old }
 {
     let entries = in_path_order(tree.list(alloc, folder)?);
@@ -46,9 +46,9 @@ pub fn list_files<T: Tree>(
 }
 
 fn read_file<T: Tree>(alloc: Global, tree: &mut T, entry: &Entry) -> Result<Prefix, AllocError>
-    ensures read { IfOk result (λ prefix. IsRead (T.content tree.old) (T.faults tree.old) (T.faults tree.new) entry.now (prefix_answer entry.now prefix)) }
-    ensures kept { OnErr result (T.faults tree.new ≡ T.faults tree.old) }
-    ensures later { T.faults tree.old ≤ T.faults tree.new }
+    ensures read { IfOk result (λ prefix. IsRead (T.content tree.old) (T.failures tree.old) (T.failures tree.new) entry.now (prefix_answer entry.now prefix)) }
+    ensures kept { OnErr result (T.failures tree.new ≡ T.failures tree.old) }
+    ensures later { T.failures tree.old ≤ T.failures tree.new }
     ensures content { T.content tree.new ≡ T.content tree.old }
 {
     match read_prefix(alloc, tree, &entry.path) {
@@ -66,10 +66,10 @@ pub fn read_files<T: Tree>(
     entries: &[Entry],
 ) -> Result<Vec<ReadFile>, AllocError>
     ensures entries { IfOk result (λ files. entries_of files.items ≡ entries.now) }
-    ensures read { IfOk result (λ files. AreRead (T.content tree.old) (T.faults tree.old) (T.faults tree.new) entries.now (answers_of files.items)) }
+    ensures read { IfOk result (λ files. AreRead (T.content tree.old) (T.failures tree.old) (T.failures tree.new) entries.now (answers_of files.items)) }
     // Also where memory runs out.
-    ensures so_far { InTurnSoFar (IsRead (T.content tree.old)) (T.faults tree.old) (T.faults tree.new) entries.now }
-    ensures later { T.faults tree.old ≤ T.faults tree.new }
+    ensures so_far { InTurnSoFar (IsRead (T.content tree.old)) (T.failures tree.old) (T.failures tree.new) entries.now }
+    ensures later { T.failures tree.old ≤ T.failures tree.new }
     ensures content { T.content tree.new ≡ T.content tree.old }
 {
     let mut files = Vec::new(alloc);

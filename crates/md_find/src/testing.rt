@@ -1,7 +1,7 @@
 // The files that were read, imported and tested in several threads.
 ghost use Rattle.std.specs.Prelude.{◌≡◌, All, IfOk, map};
 ghost use Rattle.md_value.specs.Values.{IsMoment};
-ghost use Rattle.md_files.specs.Answers.{outcome};
+ghost use Rattle.md_files.specs.FileAnswers.{outcome};
 ghost use Rattle.md_find.specs.Files.{answer_of, seen_as, seen_file};
 
 use crate::reading::{Prefix, ReadFile};

@@ -6,7 +6,7 @@ ghost use Rattle.md_gather.specs.Hits.{hits_in, first_of, past, is_last};
 use crate::walk::{is_full, walk};
 use md_match::Filter;
 use md_store::Store;
-use md_value::Items;
+use md_value::PlainVec;
 use md_world::{Part, Steps};
 use std::alloc::{AllocError, Global};
 use std::marker::Model;
@@ -81,7 +81,7 @@ impl Gather {
         let last = !is_full(hits.len(), most);
         Ok((
             Part {
-                hits: Items::from_vec(hits),
+                hits: PlainVec::from_vec(hits),
                 last,
             },
             Reached { walked },

@@ -15,7 +15,7 @@ use Rattle.md_expr_tree.specs.declared.tree.Expr.TheVariants as expr
 use Rattle.md_expr_tree.specs.declared.tree.Expr.TheOpen.{Expr-F}
 use Rattle.md_expr_tree.specs.declared.tree.Expr.TheFolds.{fold-Expr, fold-roll-Expr}
 use Rattle.md_expr_tree.specs.Counts.{comparisons, comparisons_step}
-use Rattle.md_expr.specs.Outcome.{outcome, lex, built, reading, limited}
+use Rattle.md_expr.specs.Reader.{verdict, lex, built, reading, limited}
 use Rattle.md_match.specs.Forms.{first_out_from, first_out_of_range, forms, forms_of_test, forms_step, joined}
 use Rattle.md_gen.specs.Scripts.{expression}
 
@@ -45,7 +45,7 @@ module _ {A : Type 0} (step : Expr-F A → A) where
 -- a client's expression is read as this, and its forms of time are in range
 pub record IsAsked (client : ℕ) : Type 0 where
   pub expr : Expr
-  pub read : outcome (expression client) ≡ Ok expr
+  pub read : verdict (expression client) ≡ Ok expr
   pub timely : first_out_of_range (pos 0) (pos 0) expr ≡ None
 
 limited_ok : (e : Expr) (groups n : ℕ) → groups ≤ 64 → comparisons e ≡ n → n ≤ 4096 → limited (Some (e, groups)) ≡ Ok e
@@ -56,7 +56,7 @@ limited_ok e groups n flat is few =
     rw (shallow, within) refl
 
 module _ (client groups : ℕ) (flat : groups ≤ 64) (t : Test) where
-  asked_test : outcome (expression client) ≡ limited (Some (expr.Test t, groups)) → first_out_from 1 (pos 0) (pos 0) (forms_of_test t) ≡ None → IsAsked client
+  asked_test : verdict (expression client) ≡ limited (Some (expr.Test t, groups)) → first_out_from 1 (pos 0) (pos 0) (forms_of_test t) ≡ None → IsAsked client
   unfolding comparisons forms
   asked_test read timely = record {
     expr = expr.Test t;
@@ -64,7 +64,7 @@ module _ (client groups : ℕ) (flat : groups ≤ 64) (t : Test) where
     timely = ap (first_out_from 1 (pos 0) (pos 0)) (fold_test forms_step t) ∙ timely;
   }
 
-  asked_not : outcome (expression client) ≡ limited (Some (expr.Not (expr.Test t), groups)) → first_out_from 1 (pos 0) (pos 0) (forms_of_test t) ≡ None → IsAsked client
+  asked_not : verdict (expression client) ≡ limited (Some (expr.Not (expr.Test t), groups)) → first_out_from 1 (pos 0) (pos 0) (forms_of_test t) ≡ None → IsAsked client
   unfolding comparisons forms
   asked_not read timely = record {
     expr = expr.Not (expr.Test t);
@@ -73,7 +73,7 @@ module _ (client groups : ℕ) (flat : groups ≤ 64) (t : Test) where
   }
 
 module _ (client groups : ℕ) (flat : groups ≤ 64) (t u : Test) where
-  asked_all : outcome (expression client) ≡ limited (Some (expr.All (expr.Test t ∷ expr.Test u ∷ []), groups)) → first_out_from 1 (pos 0) (pos 0) (joined (forms_of_test t ∷ forms_of_test u ∷ [])) ≡ None → IsAsked client
+  asked_all : verdict (expression client) ≡ limited (Some (expr.All (expr.Test t ∷ expr.Test u ∷ []), groups)) → first_out_from 1 (pos 0) (pos 0) (joined (forms_of_test t ∷ forms_of_test u ∷ [])) ≡ None → IsAsked client
   unfolding comparisons forms
   asked_all read timely = record {
     expr = expr.All (expr.Test t ∷ expr.Test u ∷ []);
@@ -81,7 +81,7 @@ module _ (client groups : ℕ) (flat : groups ≤ 64) (t u : Test) where
     timely = ap (first_out_from 1 (pos 0) (pos 0)) (fold_all forms_step t u) ∙ timely;
   }
 
-  asked_any : outcome (expression client) ≡ limited (Some (expr.Any (expr.Test t ∷ expr.Test u ∷ []), groups)) → first_out_from 1 (pos 0) (pos 0) (joined (forms_of_test t ∷ forms_of_test u ∷ [])) ≡ None → IsAsked client
+  asked_any : verdict (expression client) ≡ limited (Some (expr.Any (expr.Test t ∷ expr.Test u ∷ []), groups)) → first_out_from 1 (pos 0) (pos 0) (joined (forms_of_test t ∷ forms_of_test u ∷ [])) ≡ None → IsAsked client
   unfolding comparisons forms
   asked_any read timely = record {
     expr = expr.Any (expr.Test t ∷ expr.Test u ∷ []);
@@ -90,33 +90,33 @@ module _ (client groups : ℕ) (flat : groups ≤ 64) (t u : Test) where
   }
 
 pub asked_0 : IsAsked 0
-unfolding outcome expression reading chars encode lex built moment_of
+unfolding verdict expression reading chars encode lex built moment_of
 asked_0 = asked_test 0 0 (omega arith) (test.Compare (subject.Named (codes "kMDItemFSName")) op.Equal (literal.Words ([] ∷ codes ".txt" ∷ []) false false)) refl refl
 
 pub asked_1 : IsAsked 1
-unfolding outcome expression reading chars encode lex built moment_of
+unfolding verdict expression reading chars encode lex built moment_of
 asked_1 = asked_test 1 0 (omega arith) (test.Compare (subject.Named (codes "kMDItemStarRating")) op.GreaterEqual (literal.Number (pos 3000000000))) refl refl
 
 pub asked_2 : IsAsked 2
-unfolding outcome expression reading chars encode lex built moment_of
+unfolding verdict expression reading chars encode lex built moment_of
 asked_2 = asked_any 2 0 (omega arith) (test.Compare (subject.Named (codes "kMDItemKeywords")) op.Equal (literal.Words (codes "red" ∷ []) true false)) (test.Compare (subject.Named (codes "kMDItemTitle")) op.Equal (literal.Words (codes "red" ∷ []) true false)) refl refl
 
 pub asked_3 : IsAsked 3
-unfolding outcome expression reading chars encode lex built moment_of
+unfolding verdict expression reading chars encode lex built moment_of
 asked_3 = asked_test 3 0 (omega arith) (test.Compare subject.Some op.Equal (literal.Words ([] ∷ codes "budget" ∷ [] ∷ []) true true)) refl refl
 
 pub asked_4 : IsAsked 4
-unfolding outcome expression reading chars encode lex built moment_of
+unfolding verdict expression reading chars encode lex built moment_of
 asked_4 = asked_not 4 1 (omega arith) (test.Compare (subject.Named (codes "kMDItemContentType")) op.Equal (literal.Words (codes "public.json" ∷ []) false false)) refl refl
 
 pub asked_5 : IsAsked 5
-unfolding outcome expression reading chars encode lex built moment_of
+unfolding verdict expression reading chars encode lex built moment_of
 asked_5 = asked_test 5 0 (omega arith) (test.Range (codes "kMDItemFSSize") (literal.Number (pos 8000000000)) (literal.Number (pos 20000000000))) refl refl
 
 pub asked_6 : IsAsked 6
-unfolding outcome expression reading chars encode lex built moment_of
+unfolding verdict expression reading chars encode lex built moment_of
 asked_6 = asked_all 6 0 (omega arith) (test.Compare (subject.Named (codes "md_csv_rows")) op.Equal (literal.Number (pos 1000000000))) (test.Compare (subject.Named (codes "kMDItemKeywords")) op.NotEqual (literal.Words (codes "tax" ∷ []) false false)) refl refl
 
 pub asked_7 : IsAsked 7
-unfolding outcome expression reading chars encode lex built moment_of
+unfolding verdict expression reading chars encode lex built moment_of
 asked_7 = asked_test 7 0 (omega arith) (test.Compare (subject.Named (codes "kMDItemFSContentChangeDate")) op.GreaterEqual (literal.Time (form.Day (pos 0)))) refl refl

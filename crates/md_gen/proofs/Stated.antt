@@ -9,7 +9,7 @@ use Rattle.std.specs.Option.{option_map, option_and_then}
 use Rattle.std.specs.Result.{result_ok}
 use Rattle.std.specs.Str.{is_utf8, chars}
 use Rattle.md_expr_tree.specs.declared.tree.Expr.{Expr}
-use Rattle.md_expr.specs.Outcome.{outcome}
+use Rattle.md_expr.specs.Reader.{verdict}
 use Rattle.md_machine.specs.declared.Batch.{Batch}
 use Rattle.md_machine.specs.Answers.{is_zero}
 use Rattle.md_script.specs.declared.grammar.Meaning.{Meaning}
@@ -113,7 +113,7 @@ options_of update = record { scope = None; first = None; progress = None; update
 abbrev says_query : ℕ → Option ℕ → Option Expr → Option Meaning
 says_query client update e = option_map (λ what. meaning.Says what) (option_and_then (query_by client 1 (options_of update)) e)
 
-stated_query : (client : ℕ) → IsAsked client → (update : Option ℕ) → said (query_text client) ≡ says_query client update (result_ok (outcome (expression client)))
+stated_query : (client : ℕ) → IsAsked client → (update : Option ℕ) → said (query_text client) ≡ says_query client update (result_ok (verdict (expression client)))
     → is_zero update ≡ false → is_sized (query_text client) ≡ true → IsStated (query_text client)
 unfolding query_by
 stated_query client asked update says some sized =

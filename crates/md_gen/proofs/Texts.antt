@@ -9,7 +9,7 @@ use Rattle.std.proofs.lemmas.Bool.{or_parts}
 use Rattle.md_script.specs.declared.script.Line.{Line}
 use Rattle.md_script.specs.Limits.{most_lines}
 use Rattle.md_script.specs.Scripts.{is_bad_line, statements}
-use Rattle.md_script.proofs.Outcomes.{timed, timed_all}
+use Rattle.md_script.proofs.SoFar.{timed, timed_all}
 use Rattle.md_script.proofs.Verdicts.{accepted_lem}
 use Rattle.md_gen.specs.Reads.{IsRead, IsTimely}
 use Rattle.md_gen.proofs.Stated.{IsStated, is_end}

@@ -6,7 +6,7 @@ use crate::draws::Draws;
 use crate::kind::Kind;
 use crate::words::word;
 use md_source::Entry;
-use md_value::{Items, Path, PathError};
+use md_value::{PlainVec, Path, PathError};
 use std::alloc::{AllocError, Global};
 
 /// How many kinds of files there are.
@@ -91,7 +91,7 @@ fn path_of(alloc: Global, i: u32, kind: Kind) -> Result<Path, AllocError>
 
 // A file and what it holds.
 #[tactic(auto, unfolding(crate::specs::Files::drawn_file))]
-fn file(alloc: Global, draws: &mut Draws, i: u32) -> Result<(Entry, Items<u8>), AllocError>
+fn file(alloc: Global, draws: &mut Draws, i: u32) -> Result<(Entry, PlainVec<u8>), AllocError>
     requires { i < 10000 }
     ensures file { IfOk result (λ made. made ≡ drawn_file draws.old.state i) }
     ensures draws { draws.new.state ≡ after_file draws.old.state }
@@ -104,7 +104,7 @@ fn file(alloc: Global, draws: &mut Draws, i: u32) -> Result<(Entry, Items<u8>), 
         size: content.len() as u64,
         changed: 0,
     };
-    Ok((entry, Items::from_vec(content)))
+    Ok((entry, PlainVec::from_vec(content)))
 }
 
 /// The first n files, with what they hold.
@@ -112,7 +112,7 @@ pub(crate) fn files(
     alloc: Global,
     draws: &mut Draws,
     n: u32,
-) -> Result<Vec<(Entry, Items<u8>)>, AllocError>
+) -> Result<Vec<(Entry, PlainVec<u8>)>, AllocError>
     requires { n ≤ 10000 }
     ensures { IfOk result (λ made. (made.items ≡ drawn_files draws.old.state 0 n) × (draws.new.state ≡ after_files draws.old.state n)) }
 {

@@ -9,14 +9,14 @@ use crate::draws::Draws;
 use crate::files::files;
 use crate::script::script;
 use md_source::Entry;
-use md_value::Items;
+use md_value::PlainVec;
 use std::alloc::{AllocError, Global};
 
 /// Files and a script over them.
 #[derive(Debug, Drop)]
 pub struct Made {
     /// Each with its bytes, in the order in which they were drawn.
-    pub files: Vec<(Entry, Items<u8>)>,
+    pub files: Vec<(Entry, PlainVec<u8>)>,
     /// Lines, each ended by a line feed.
     pub script: String,
 }

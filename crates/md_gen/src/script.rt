@@ -6,7 +6,7 @@ ghost use Rattle.md_gen.specs.Draws.{next, drawn};
 use crate::draws::Draws;
 use crate::lines::{push_asked, push_path, push_query};
 use md_source::Entry;
-use md_value::Items;
+use md_value::PlainVec;
 use std::alloc::{AllocError, Global};
 
 /// The clients that ask.
@@ -16,7 +16,7 @@ const CLIENTS: [usize; 8] = [0, 1, 2, 3, 4, 5, 6, 7];
 const ACTIONS: usize = 4;
 
 // Appends the imports of some files.
-fn push_imports(text: &mut String, files: &[(Entry, Items<u8>)]) -> Result<(), AllocError>
+fn push_imports(text: &mut String, files: &[(Entry, PlainVec<u8>)]) -> Result<(), AllocError>
     ensures { OnOk result (string_bytes text.new ≡ string_bytes text.old ++ imports files.now) }
 {
     for (entry, _) in files {
@@ -49,7 +49,7 @@ fn push_polls(text: &mut String, clients: &[usize]) -> Result<(), AllocError>
 // Appends a removal of one of the files up to the i-th, a poll, a disable or an enable, as is drawn.
 fn push_action(
     text: &mut String,
-    files: &[(Entry, Items<u8>)],
+    files: &[(Entry, PlainVec<u8>)],
     draws: &mut Draws,
     i: usize,
 ) -> Result<(), AllocError>
@@ -72,7 +72,7 @@ fn push_action(
 #[tactic(auto, unfolding(crate::specs::Scripts::step))]
 fn push_step(
     text: &mut String,
-    files: &[(Entry, Items<u8>)],
+    files: &[(Entry, PlainVec<u8>)],
     draws: &mut Draws,
     i: usize,
 ) -> Result<(), AllocError>
@@ -88,7 +88,7 @@ fn push_step(
 // Appends the imports of the files from one on, with what is drawn to follow each.
 fn push_steps(
     text: &mut String,
-    files: &[(Entry, Items<u8>)],
+    files: &[(Entry, PlainVec<u8>)],
     draws: &mut Draws,
     first: usize,
 ) -> Result<(), AllocError>
@@ -105,7 +105,7 @@ fn push_steps(
 #[tactic(auto, unfolding(crate::specs::Scripts::script_over))]
 pub(crate) fn script(
     alloc: Global,
-    files: &[(Entry, Items<u8>)],
+    files: &[(Entry, PlainVec<u8>)],
     draws: &mut Draws,
 ) -> Result<String, AllocError>
     ensures { IfOk result (λ text. string_bytes text ≡ script_over files.now draws.old.state (length files.now)) }

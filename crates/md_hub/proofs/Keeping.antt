@@ -6,7 +6,7 @@ use Rattle.md_machine.specs.declared.Event.{Event}
 use Rattle.md_machine.specs.declared.Event.TheVariants as event
 use Rattle.md_machine.specs.declared.Spec.{Spec}
 use Rattle.md_machine.specs.States.{Query, query_at, without_query, queries_of}
-use Rattle.md_machine.specs.Steps.{StepResult, step, outcome_of}
+use Rattle.md_machine.specs.Steps.{StepResult, step, step_result}
 use Rattle.md_store.specs.Stores.{Stored}
 use Rattle.md_query.specs.Asked.{answered}
 use Rattle.md_hub.specs.declared.asks.Call.{Call}
@@ -65,7 +65,7 @@ state_pinned old new news is = ap (λ (s : Stored). state_of s news) is
 -- the state once a query is asked
 pub state_asked : (old : Stored) (qs : List Query) (new : Stored) (news : List Query) (call : Call) → WithPins old new
     → with_tables old.places news ≡ queries_after (answer_to old call) (with_tables old.places qs) (query_at (with_tables old.places qs) call.client call.number)
-    → state_of new news ≡ (outcome_of (state_of old qs) (answered (state_of old qs) call.ask call.now_ms) (query_at (state_of old qs).queries call.client call.number)).state
+    → state_of new news ≡ (step_result (state_of old qs) (answered (state_of old qs) call.ask call.now_ms) (query_at (state_of old qs).queries call.client call.number)).state
 state_asked old qs new news call store is =
     state_pinned old new news store ∙ ap (λ (queries : List Query). record (state_of old qs) { queries = queries }) is
     ∙ asked_state (state_of old qs) call.ask call.now_ms call.client call.number

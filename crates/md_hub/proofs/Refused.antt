@@ -11,7 +11,7 @@ use Rattle.md_machine.specs.declared.Reply.{Reply}
 use Rattle.md_machine.specs.declared.Spec.{Spec}
 use Rattle.md_machine.specs.Answers.{shown_answer}
 use Rattle.md_machine.specs.States.{Ticket, Stamp, Phase, Gathering, Finished, Query, State, ticket_at, stamp_at, query_at, queries_of}
-use Rattle.md_machine.specs.Steps.{StepResult, Answered, step, draw, commit, commit_over, close, create, outcome_of, stop, gather, gather_in, next_part, most_hits, disable, enable, enable_in, poll, poll_in, is_due, pending}
+use Rattle.md_machine.specs.Steps.{StepResult, Answered, step, draw, commit, commit_over, close, create, step_result, stop, gather, gather_in, next_part, most_hits, disable, enable, enable_in, poll, poll_in, is_due, pending}
 use Rattle.md_machine.specs.Runs.{run}
 use Rattle.md_machine.proofs.Joining.{last-join, replies-join}
 use Rattle.md_machine.proofs.Lists.{by_cond}
@@ -66,7 +66,7 @@ made_poll s q now Finished =
     by_cond (λ (a : Answered). IsMade a.reply) (nat_lt 0 q.disables) _ _ (λ _. refl)
     (λ _. by_cond (λ (a : Answered). IsMade a.reply) (is_due q.spec.batch (items_of (pending s q)) (now - q.delivered)) _ _ (λ _. refl) (λ _. refl))
 
-made_asked : (s : State) (ask : Query → Answered) → ((q : Query) → IsMade (ask q).reply) → (o : Option Query) → IsMade (outcome_of s ask o).reply
+made_asked : (s : State) (ask : Query → Answered) → ((q : Query) → IsMade (ask q).reply) → (o : Option Query) → IsMade (step_result s ask o).reply
 made_asked s ask each None = refl
 made_asked s ask each (Some q) = each q
 

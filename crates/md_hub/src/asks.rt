@@ -15,7 +15,7 @@ ghost use Rattle.md_hub.specs.Places.{IsPlace, reply_of, queries_after};
 ghost use Rattle.md_hub.specs.Reads.{reads_asked, held_reads};
 ghost use Rattle.md_hub.specs.States.{with_tables};
 
-use crate::Held;
+use crate::HeldRows;
 use crate::queries::{place_of, take_out};
 use crate::query::LiveQuery;
 use md_machine::{Reply, Spec};
@@ -179,7 +179,7 @@ pub fn held<L: Ledger>(
     client: u8,
     number: u32,
     steps: &mut Steps<L>,
-) -> Result<Option<Held>, AllocError>
+) -> Result<Option<HeldRows>, AllocError>
     requires { ArePinned store.now.pins queries.now }
     ensures reads { steps.new ≤ steps.old + held_reads (query_at (with_tables store.now.places queries.now) client number) }
     ensures given { IfOk result (λ held. held ≡ option_map given_by (query_at (with_tables store.now.places queries.now) client number)) }

@@ -3,7 +3,7 @@ ghost use Rattle.std.specs.Prelude.{◌≡◌, ◌≤◌, ◌<◌, ◌+◌, [], 
 ghost use Rattle.std.specs.List.{AllByRecursion};
 ghost use Rattle.md_machine.specs.Replies.{delivers, takes_memory};
 ghost use Rattle.md_machine.specs.States.{Query, opening, query_at};
-ghost use Rattle.md_machine.specs.Steps.{step, outcome_of};
+ghost use Rattle.md_machine.specs.Steps.{step, step_result};
 ghost use Rattle.std.specs.Option.{option_map};
 ghost use Rattle.md_world.specs.Tables.{IsTable};
 ghost use Rattle.md_query.specs.Asked.{answered};
@@ -15,7 +15,7 @@ ghost use Rattle.md_hub.specs.Stepping.{IsStep};
 
 use crate::asks::{self, Call};
 use crate::query::LiveQuery;
-use crate::{Held, desk, queries};
+use crate::{HeldRows, desk, queries};
 use md_machine::{Event, Reply, Spec};
 use md_query::{Ask, copy_rows, read};
 use md_store::Store;
@@ -129,10 +129,10 @@ impl Hub {
         call: Call,
         steps: &mut Steps<L>,
     ) -> Result<Reply, AllocError>
-        ensures reply { IfOk result (λ r. r ≡ (outcome_of self.old.state (answered self.old.state call.ask call.now_ms) (query_at self.old.state.queries call.client call.number)).reply) }
-        ensures state { OnOk result (self.new.state ≡ (outcome_of self.old.state (answered self.old.state call.ask call.now_ms) (query_at self.old.state.queries call.client call.number)).state) }
+        ensures reply { IfOk result (λ r. r ≡ (step_result self.old.state (answered self.old.state call.ask call.now_ms) (query_at self.old.state.queries call.client call.number)).reply) }
+        ensures state { OnOk result (self.new.state ≡ (step_result self.old.state (answered self.old.state call.ask call.now_ms) (query_at self.old.state.queries call.client call.number)).state) }
         ensures err { OnErr result (self.new ≡ self.old) }
-        ensures memory { OnErr result (takes_memory (outcome_of self.old.state (answered self.old.state call.ask call.now_ms) (query_at self.old.state.queries call.client call.number)).reply ≡ true) }
+        ensures memory { OnErr result (takes_memory (step_result self.old.state (answered self.old.state call.ask call.now_ms) (query_at self.old.state.queries call.client call.number)).reply ≡ true) }
         ensures kept { IfOk result (λ r. self.new.places ≡ self.old.places) }
         ensures reads { steps.new ≤ steps.old + reads_asked self.old.state.table (answered self.old.state call.ask call.now_ms) (query_at self.old.state.queries call.client call.number) }
     {
@@ -147,11 +147,11 @@ impl Hub {
     ) -> Result<(Reply, Reply), AllocError>
         requires name { blank.name ≡ L.name }
         requires parts { (blank.parts ≡ L.parts) × (0 < L.parts) }
-        ensures reply { IfOk result (λ r. r.0 ≡ (outcome_of self.old.state (answered self.old.state call.ask call.now_ms) (query_at self.old.state.queries call.client call.number)).reply) }
-        ensures copy { IfOk result (λ r. r.1 ≡ (outcome_of self.old.state (answered self.old.state call.ask call.now_ms) (query_at self.old.state.queries call.client call.number)).reply) }
-        ensures state { OnOk result (self.new.state ≡ (outcome_of self.old.state (answered self.old.state call.ask call.now_ms) (query_at self.old.state.queries call.client call.number)).state) }
+        ensures reply { IfOk result (λ r. r.0 ≡ (step_result self.old.state (answered self.old.state call.ask call.now_ms) (query_at self.old.state.queries call.client call.number)).reply) }
+        ensures copy { IfOk result (λ r. r.1 ≡ (step_result self.old.state (answered self.old.state call.ask call.now_ms) (query_at self.old.state.queries call.client call.number)).reply) }
+        ensures state { OnOk result (self.new.state ≡ (step_result self.old.state (answered self.old.state call.ask call.now_ms) (query_at self.old.state.queries call.client call.number)).state) }
         ensures err { OnErr result (self.new ≡ self.old) }
-        ensures memory { OnErr result (takes_memory (outcome_of self.old.state (answered self.old.state call.ask call.now_ms) (query_at self.old.state.queries call.client call.number)).reply ≡ true) }
+        ensures memory { OnErr result (takes_memory (step_result self.old.state (answered self.old.state call.ask call.now_ms) (query_at self.old.state.queries call.client call.number)).reply ≡ true) }
         ensures kept { IfOk result (λ r. self.new.places ≡ self.old.places) }
     {
         let mut steps = Steps::<L>::open(blank);
@@ -160,11 +160,11 @@ impl Hub {
 
     // What the query that is asked answers, twice, over a counter of its own.
     fn ask_twice(&mut self, alloc: Global, call: Call) -> Result<(Reply, Reply), AllocError>
-        ensures reply { IfOk result (λ r. r.0 ≡ (outcome_of self.old.state (answered self.old.state call.ask call.now_ms) (query_at self.old.state.queries call.client call.number)).reply) }
-        ensures copy { IfOk result (λ r. r.1 ≡ (outcome_of self.old.state (answered self.old.state call.ask call.now_ms) (query_at self.old.state.queries call.client call.number)).reply) }
-        ensures state { OnOk result (self.new.state ≡ (outcome_of self.old.state (answered self.old.state call.ask call.now_ms) (query_at self.old.state.queries call.client call.number)).state) }
+        ensures reply { IfOk result (λ r. r.0 ≡ (step_result self.old.state (answered self.old.state call.ask call.now_ms) (query_at self.old.state.queries call.client call.number)).reply) }
+        ensures copy { IfOk result (λ r. r.1 ≡ (step_result self.old.state (answered self.old.state call.ask call.now_ms) (query_at self.old.state.queries call.client call.number)).reply) }
+        ensures state { OnOk result (self.new.state ≡ (step_result self.old.state (answered self.old.state call.ask call.now_ms) (query_at self.old.state.queries call.client call.number)).state) }
         ensures err { OnErr result (self.new ≡ self.old) }
-        ensures memory { OnErr result (takes_memory (outcome_of self.old.state (answered self.old.state call.ask call.now_ms) (query_at self.old.state.queries call.client call.number)).reply ≡ true) }
+        ensures memory { OnErr result (takes_memory (step_result self.old.state (answered self.old.state call.ask call.now_ms) (query_at self.old.state.queries call.client call.number)).reply ≡ true) }
         ensures kept { IfOk result (λ r. self.new.places ≡ self.old.places) }
     {
         self.ask_counted::<Brand>(alloc, call, Blank::new(1))
@@ -331,7 +331,7 @@ impl Hub {
         client: u8,
         number: u32,
         steps: &mut Steps<L>,
-    ) -> Result<Option<Held>, AllocError>
+    ) -> Result<Option<HeldRows>, AllocError>
         ensures given { IfOk result (λ held. held ≡ option_map given_by (query_at self.now.state.queries client number)) }
         ensures ordered { IfOk result (λ held. IfSome held (λ given. IsTable given.rows)) }
         ensures reads { steps.new ≤ steps.old + held_reads (query_at self.now.state.queries client number) }

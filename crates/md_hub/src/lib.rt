@@ -13,12 +13,12 @@
 mod as_core;
 mod asks;
 mod desk;
-mod held;
+mod held_rows;
 mod hub;
 mod queries;
 mod query;
 mod runs;
 
-pub use held::Held;
+pub use held_rows::HeldRows;
 pub use hub::Hub;
 pub use runs::run;

@@ -56,9 +56,9 @@ then_second Greater p h = cc
 
 pub exact_keyed : (a b : Keyed) → is_eq (keyed_cmp a b) ≡ true → a ≡ b
 exact_keyed a b h =
-    let key : a.key ≡ b.key = exact_name a.key b.key (then_first (slice_cmp nat_cmp a.key b.key) (value_cmp a.held b.held) h) in
-    let held : a.held ≡ b.held = exact_value a.held b.held (then_second (slice_cmp nat_cmp a.key b.key) (value_cmp a.held b.held) h) in
-    λ i. record { key = key i; held = held i }
+    let key : a.key ≡ b.key = exact_name a.key b.key (then_first (slice_cmp nat_cmp a.key b.key) (value_cmp a.indexed b.indexed) h) in
+    let indexed : a.indexed ≡ b.indexed = exact_value a.indexed b.indexed (then_second (slice_cmp nat_cmp a.key b.key) (value_cmp a.indexed b.indexed) h) in
+    λ i. record { key = key i; indexed = indexed i }
 
 pub exact_wanted : (a b : Wanted) → is_eq (wanted_cmp a b) ≡ true → a ≡ b
 exact_wanted a b h =

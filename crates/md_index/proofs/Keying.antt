@@ -34,25 +34,25 @@ text_same a b e = cc
 -- ---- a key that is added to a set
 
 module _ (old new : Keys) (x : Keyed) (update : (q : Keyed) → contains keyed_cmp new q ≡ cond (is_eq (keyed_cmp x q)) true (contains keyed_cmp old q)) where
-  pub added_right : (fold marks : Bool) → mark_of fold marks x.held ≡ mark.Text x.key → AreKeys fold marks old → AreKeys fold marks new
+  pub added_right : (fold marks : Bool) → mark_of fold marks x.indexed ≡ mark.Text x.key → AreKeys fold marks old → AreKeys fold marks new
   added_right fold marks own right k v h =
-      let q : Keyed = record { key = k; held = v } in
+      let q : Keyed = record { key = k; indexed = v } in
       by_test (is_eq (keyed_cmp x q))
-      (λ e. subst (λ (y : Keyed). mark_of fold marks y.held ≡ mark.Text y.key) (exact_keyed x q e) own)
+      (λ e. subst (λ (y : Keyed). mark_of fold marks y.indexed ≡ mark.Text y.key) (exact_keyed x q e) own)
       (λ e. right k v (sym (update q ∙ ap (λ b. cond b true (contains keyed_cmp old q)) e) ∙ h))
 
   pub added_kept : (k : List ℕ) (v : Value) → has_key old k v ≡ true → has_key new k v ≡ true
   added_kept k v h =
-      let q : Keyed = record { key = k; held = v } in
+      let q : Keyed = record { key = k; indexed = v } in
       by_test (is_eq (keyed_cmp x q))
       (λ e. update q ∙ ap (λ b. cond b true (contains keyed_cmp old q)) e)
       (λ e. update q ∙ ap (λ b. cond b true (contains keyed_cmp old q)) e ∙ h)
 
-  pub added_there : has_key new x.key x.held ≡ true
+  pub added_there : has_key new x.key x.indexed ≡ true
   added_there = update x ∙ ap (λ b. cond b true (contains keyed_cmp old x)) (keyed_equiv.refl x)
 
-  pub added_own : (fold marks : Bool) → mark_of fold marks x.held ≡ mark.Text x.key → (k : List ℕ) → mark_of fold marks x.held ≡ mark.Text k → has_key new k x.held ≡ true
-  added_own fold marks own k is = subst (λ j. has_key new j x.held ≡ true) (text_same x.key k (sym own ∙ is)) added_there
+  pub added_own : (fold marks : Bool) → mark_of fold marks x.indexed ≡ mark.Text x.key → (k : List ℕ) → mark_of fold marks x.indexed ≡ mark.Text k → has_key new k x.indexed ≡ true
+  added_own fold marks own k is = subst (λ j. has_key new j x.indexed ≡ true) (text_same x.key k (sym own ∙ is)) added_there
 
 -- ---- the keys of values, one after another
 
@@ -126,7 +126,7 @@ pub facts_first : (orders : Orders) (facts : List Fact) → KeyedFacts orders fa
 facts_first orders facts w k v is has = or_second (is_keyed (keys_at orders w) k v) (has_fact facts w.name v) has
 
 pub facts_more : (old new : Orders) (facts : List Fact) (i : ℕ) (x : Fact) → slice_get facts i ≡ Some x → Grows old new
-    → ((fold : Bool) (marks : Bool) (k : List ℕ) → mark_of fold marks x.held ≡ mark.Text k → is_keyed (keys_at new (record { name = x.name; fold = fold; marks = marks })) k x.held ≡ true)
+    → ((fold : Bool) (marks : Bool) (k : List ℕ) → mark_of fold marks x.indexed ≡ mark.Text k → is_keyed (keys_at new (record { name = x.name; fold = fold; marks = marks })) k x.indexed ≡ true)
     → KeyedFacts old facts i → KeyedFacts new facts (i + 1)
 facts_more old new facts i x there grows made so_far w k v is has =
     let rest = has_fact (drop (i + 1) facts) w.name v in
@@ -139,10 +139,10 @@ facts_more old new facts i x there grows made so_far w k v is has =
     let more : is_fact w.name v x || rest ≡ true = or_else was (is_fact w.name v x || rest) before e in
     by_test (is_fact w.name v x)
     (λ one.
-    let name : x.name ≡ w.name = exact_name x.name w.name (and_first (is_eq (slice_cmp nat_cmp x.name w.name)) (is_eq (value_cmp x.held v)) one) in
-    let held : x.held ≡ v = exact_value x.held v (and_second (is_eq (slice_cmp nat_cmp x.name w.name)) (is_eq (value_cmp x.held v)) one) in
-    let here : is_keyed (keys_at new (record { name = x.name; fold = w.fold; marks = w.marks })) k x.held ≡ true = made w.fold w.marks k (subst (λ u. mark_of w.fold w.marks u ≡ mark.Text k) (sym held) is) in
-    or_first now rest (subst (λ u. is_keyed (keys_at new w) k u ≡ true) held (subst (λ n. is_keyed (keys_at new (record { name = n; fold = w.fold; marks = w.marks })) k x.held ≡ true) name here)))
+    let name : x.name ≡ w.name = exact_name x.name w.name (and_first (is_eq (slice_cmp nat_cmp x.name w.name)) (is_eq (value_cmp x.indexed v)) one) in
+    let indexed : x.indexed ≡ v = exact_value x.indexed v (and_second (is_eq (slice_cmp nat_cmp x.name w.name)) (is_eq (value_cmp x.indexed v)) one) in
+    let here : is_keyed (keys_at new (record { name = x.name; fold = w.fold; marks = w.marks })) k x.indexed ≡ true = made w.fold w.marks k (subst (λ u. mark_of w.fold w.marks u ≡ mark.Text k) (sym indexed) is) in
+    or_first now rest (subst (λ u. is_keyed (keys_at new w) k u ≡ true) indexed (subst (λ n. is_keyed (keys_at new (record { name = n; fold = w.fold; marks = w.marks })) k x.indexed ≡ true) name here)))
     (λ not. or_second now rest (or_else (is_fact w.name v x) rest more not)))
 
 pub facts_last : (orders : Orders) (facts : List Fact) (i : ℕ) → drop i facts ≡ [] → KeyedFacts orders facts i → HasKeys orders facts
@@ -156,8 +156,8 @@ facts_last orders facts i end all w k v is has =
 
 -- ---- the keys of rows
 
-pub held_on : (a b : Orders) (rows : ℕ → Option Row) → Grows a b → HoldKeys a rows → HoldKeys b rows
-held_on a b rows grows holds = record { right = λ w. grows.right w (holds.right w); whole = λ w k v p is has. grows.kept w k v (holds.whole w k v p is has) }
+pub keys_hold : (a b : Orders) (rows : ℕ → Option Row) → Grows a b → HoldKeys a rows → HoldKeys b rows
+keys_hold a b rows grows holds = record { right = λ w. grows.right w (holds.right w); whole = λ w k v p is has. grows.kept w k v (holds.whole w k v p is has) }
 
 pub keys_applied : (orders : Orders) (place : ℕ) (adds : List Fact) (rows : ℕ → Option Row) (new : Option Row) → HasKeys orders adds
     → ((n : List ℕ) (v : Value) → has_fact adds n v ≡ row_has new n v && not (row_has (rows place) n v)) → HoldKeys orders rows → HoldKeys orders (row_set rows place new)
@@ -174,9 +174,9 @@ keys_applied orders place adds rows new has_keys is_adds holds = record {
 
 -- keys that were made for all texts of an attribute
 module _ (m n : Orders) (names : Names) (w : Wanted) (keys : Keys) (rows : ℕ → Option Row) (had : get wanted_cmp m w ≡ None) (update : (q : Wanted) → get wanted_cmp n q ≡ cond (is_eq (wanted_cmp w q)) (Some keys) (get wanted_cmp m q)) where
-  pub wanted_held : AreKeys w.fold w.marks keys → ((k : List ℕ) (v : Value) (p : ℕ) → mark_of w.fold w.marks v ≡ mark.Text k → is_on (named_state (get (slice_cmp nat_cmp) names w.name) v p) ≡ true → has_key keys k v ≡ true)
+  pub wanted_indexed : AreKeys w.fold w.marks keys → ((k : List ℕ) (v : Value) (p : ℕ) → mark_of w.fold w.marks v ≡ mark.Text k → is_on (named_state (get (slice_cmp nat_cmp) names w.name) v p) ≡ true → has_key keys k v ≡ true)
       → HoldRows names rows → HoldKeys m rows → HoldKeys n rows
-  wanted_held right whole holds old = record {
+  wanted_indexed right whole holds old = record {
     right = λ q. updated_at wanted_cmp exact_wanted m n w None (Some keys) had update (λ r o p. AreKeysAt r o → AreKeysAt r p) (λ none. right) (λ r o have. have) q (old.right q);
     whole = λ q k v p is has.
         updated_at wanted_cmp exact_wanted m n w None (Some keys) had update

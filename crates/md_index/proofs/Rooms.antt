@@ -20,7 +20,7 @@ HaveRoom names facts place i = (n : List ℕ) (v : Value) → has_fact facts n v
 
 pub room_more : (names after : Names) (facts : List Fact) (place i : ℕ) (x : Fact) → slice_get facts i ≡ Some x
     → ((n : List ℕ) (v : Value) (p : ℕ) → is_some (state names n v p) ≡ true → is_some (state after n v p) ≡ true)
-    → is_some (state after x.name x.held place) ≡ true → HaveRoom names facts place i → HaveRoom after facts place (i + 1)
+    → is_some (state after x.name x.indexed place) ≡ true → HaveRoom names facts place i → HaveRoom after facts place (i + 1)
 room_more names after facts place i x there keeps made so_far n v has =
     let rest = has_fact (drop (i + 1) facts) n v in
     let before : is_some (state names n v place) || (is_fact n v x || rest) ≡ true =
@@ -31,8 +31,8 @@ room_more names after facts place i x there keeps made so_far n v has =
     let more : is_fact n v x || rest ≡ true = or_else (is_some (state names n v place)) (is_fact n v x || rest) before e in
     by_test (is_fact n v x)
     (λ is.
-    let name : x.name ≡ n = exact_name x.name n (and_first (is_eq (slice_cmp nat_cmp x.name n)) (is_eq (value_cmp x.held v)) is) in
-    let held : x.held ≡ v = exact_value x.held v (and_second (is_eq (slice_cmp nat_cmp x.name n)) (is_eq (value_cmp x.held v)) is) in
-    let here : is_some (state after n v place) ≡ true = subst (λ w. is_some (state after n w place) ≡ true) held (subst (λ m. is_some (state after m x.held place) ≡ true) name made) in
+    let name : x.name ≡ n = exact_name x.name n (and_first (is_eq (slice_cmp nat_cmp x.name n)) (is_eq (value_cmp x.indexed v)) is) in
+    let indexed : x.indexed ≡ v = exact_value x.indexed v (and_second (is_eq (slice_cmp nat_cmp x.name n)) (is_eq (value_cmp x.indexed v)) is) in
+    let here : is_some (state after n v place) ≡ true = subst (λ w. is_some (state after n w place) ≡ true) indexed (subst (λ m. is_some (state after m x.indexed place) ≡ true) name made) in
     or_first (is_some (state after n v place)) rest here)
     (λ not. or_second (is_some (state after n v place)) rest (or_else (is_fact n v x) rest more not)))

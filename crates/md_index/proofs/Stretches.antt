@@ -114,15 +114,15 @@ least_text [] = refl
 least_text (x ∷ xs) = refl
 
 module _ (k t : List ℕ) where
-  after_key : (a : List ℕ) → is_ge (slice_cmp nat_cmp k a) ≡ true → is_le (keyed_cmp (before_texts a) (record { key = k; held = value.Text t })) ≡ true
+  after_key : (a : List ℕ) → is_ge (slice_cmp nat_cmp k a) ≡ true → is_le (keyed_cmp (before_texts a) (record { key = k; indexed = value.Text t })) ≡ true
   after_key a h =
       subst (λ o. is_le (ordering_then o (slice_cmp nat_cmp [] t)) ≡ true) (sym (name_total.antisymm a k))
       (le_then (slice_cmp nat_cmp k a) (slice_cmp nat_cmp [] t) h (least_text t))
 
-  before_key : (a : List ℕ) → is_le (slice_cmp nat_cmp k a) ≡ true → is_lt (keyed_cmp (after_texts a) (record { key = k; held = value.Text t })) ≡ false
+  before_key : (a : List ℕ) → is_le (slice_cmp nat_cmp k a) ≡ true → is_lt (keyed_cmp (after_texts a) (record { key = k; indexed = value.Text t })) ≡ false
   before_key a h = subst (λ o. is_lt (ordering_then o Greater) ≡ false) (sym (name_total.antisymm a k)) (lt_then (slice_cmp nat_cmp k a) h)
 
-  from_key : (e : Edge) → is_above (mark.Text k) e ≡ true → is_from_start keyed_cmp (bound_at (option_map before_texts (edge_key e))) (record { key = k; held = value.Text t }) ≡ true
+  from_key : (e : Edge) → is_above (mark.Text k) e ≡ true → is_from_start keyed_cmp (bound_at (option_map before_texts (edge_key e))) (record { key = k; indexed = value.Text t }) ≡ true
   from_key edge.None h = refl
   from_key (edge.With (mark.Text a)) h = after_key a h
   from_key (edge.With (mark.Number a)) h = refl
@@ -131,7 +131,7 @@ module _ (k t : List ℕ) where
   from_key (edge.Without (mark.Number a)) h = refl
   from_key (edge.Without (mark.Moment a)) h = refl
 
-  to_key : (e : Edge) → is_below (mark.Text k) e ≡ true → is_past_end keyed_cmp (bound_at (option_map after_texts (edge_key e))) (record { key = k; held = value.Text t }) ≡ false
+  to_key : (e : Edge) → is_below (mark.Text k) e ≡ true → is_past_end keyed_cmp (bound_at (option_map after_texts (edge_key e))) (record { key = k; indexed = value.Text t }) ≡ false
   to_key edge.None h = refl
   to_key (edge.With (mark.Text a)) h = before_key a h
   to_key (edge.With (mark.Number a)) h = refl
@@ -141,7 +141,7 @@ module _ (k t : List ℕ) where
   to_key (edge.Without (mark.Moment a)) h = refl
 
 in_stretch : (probe : Probe) (k : List ℕ) (v : Value) → mark_of probe.fold probe.marks v ≡ mark.Text k → is_key_between probe k ≡ true
-    → range_contains keyed_cmp (bound_at (option_map before_texts (edge_key probe.low))) (bound_at (option_map after_texts (edge_key probe.high))) (record { key = k; held = v }) ≡ true
+    → range_contains keyed_cmp (bound_at (option_map before_texts (edge_key probe.low))) (bound_at (option_map after_texts (edge_key probe.high))) (record { key = k; indexed = v }) ≡ true
 in_stretch probe k (value.Text t) is h =
     rw (
       from_key k t probe.low (and_first (is_above (mark.Text k) probe.low) (is_below (mark.Text k) probe.high) h),
@@ -188,7 +188,7 @@ module _ (test part : Keyed → Bool) where
 pub keyed_is : (probe : Probe) (keys : Keys) (values : BTreeMap Value Places) (stretch : Stretch) → IsOrdered value_cmp values → IsStretchOf probe stretch → AreKeysOf probe keys values
     → (p : ℕ) → counted_keyed probe values (keys_between keyed_cmp (bound_at stretch.low) (bound_at stretch.high) keys) p ≡ counted_between probe values.entries p
 keyed_is probe keys values stretch ordered is fits p =
-    let test : Keyed → Bool = λ k. is_key_between probe k.key && is_on (value_state values k.held p) in
+    let test : Keyed → Bool = λ k. is_key_between probe k.key && is_on (value_state values k.indexed p) in
     let low = option_map before_texts (edge_key probe.low) in
     let high = option_map after_texts (edge_key probe.high) in
     ap (λ l. counted_keyed probe values (keys_between keyed_cmp (bound_at l) (bound_at stretch.high) keys) p) is.low
@@ -196,14 +196,14 @@ keyed_is probe keys values stretch ordered is fits p =
     ∙ one_bool _ _
     (λ h.
     let x = found_there test (range_contains keyed_cmp (bound_at low) (bound_at high)) keys.keys h in
-    let own : mark_of probe.fold probe.marks x.0.held ≡ mark.Text x.0.key = fits.right x.0.key x.0.held x.2 in
-    let between : is_between probe x.0.held ≡ true = ap (λ m. is_above m probe.low && is_below m probe.high) own ∙ and_first (is_key_between probe x.0.key) (is_on (value_state values x.0.held p)) x.1 in
-    between_counted probe values.entries x.0.held p between (and_second (is_key_between probe x.0.key) (is_on (value_state values x.0.held p)) x.1))
+    let own : mark_of probe.fold probe.marks x.0.indexed ≡ mark.Text x.0.key = fits.right x.0.key x.0.indexed x.2 in
+    let between : is_between probe x.0.indexed ≡ true = ap (λ m. is_above m probe.low && is_below m probe.high) own ∙ and_first (is_key_between probe x.0.key) (is_on (value_state values x.0.indexed p)) x.1 in
+    between_counted probe values.entries x.0.indexed p between (and_second (is_key_between probe x.0.key) (is_on (value_state values x.0.indexed p)) x.1))
     (λ h.
     let b = between_found probe values values.entries (recursion_from_All _ values.entries (All-found value_total values ordered)) p h in
     let m = mark_of probe.fold probe.marks b.value in
     let text = text_between probe is.texts m (and_first (is_above m probe.low) (is_below m probe.high) b.between) (and_second (is_above m probe.low) (is_below m probe.high) b.between) in
     let inside : is_key_between probe text.0 ≡ true = ap (λ n. is_above n probe.low && is_below n probe.high) (sym text.1) ∙ b.between in
-    let x : Keyed = record { key = text.0; held = b.value } in
+    let x : Keyed = record { key = text.0; indexed = b.value } in
     any_there test (range_contains keyed_cmp (bound_at low) (bound_at high)) x keys.keys (both_true (is_key_between probe text.0) (is_on (value_state values b.value p)) inside b.on)
     (in_stretch probe text.0 b.value text.1 inside) (fits.whole text.0 b.value p text.1 b.on))

@@ -30,7 +30,7 @@ row_has row name value = not (is_same name text_content) && attr_has row name va
 
 -- whether it says that the attribute has the value
 abbrev pub is_fact : List ℕ → Value → Fact → Bool
-is_fact name value fact = is_eq (slice_cmp nat_cmp fact.name name) && is_eq (value_cmp fact.held value)
+is_fact name value fact = is_eq (slice_cmp nat_cmp fact.name name) && is_eq (value_cmp fact.indexed value)
 
 -- whether one of these says that the attribute has the value
 abbrev pub has_fact : List Fact → List ℕ → Value → Bool
@@ -38,7 +38,7 @@ has_fact facts name value = list_any (is_fact name value) facts
 
 -- the values of one attribute that another row has not
 abbrev pub facts_at : Option Row → List ℕ → List Value → List Fact
-facts_at other name values = map (λ value. record { name = name; held = value }) (filter (λ value. not (attr_has other name value)) values)
+facts_at other name values = map (λ value. record { name = name; indexed = value }) (filter (λ value. not (attr_has other name value)) values)
 
 -- each attribute but the text content with each of its values that another row has not
 abbrev pub facts_in : Option Row → List Attr → List Fact

@@ -27,13 +27,13 @@ use Rattle.md_index.specs.States.{is_on, value_state}
 
 -- by key, and then by value
 abbrev pub keyed_cmp : Keyed → Keyed → Ordering
-keyed_cmp = then_cmp (on (λ (k : Keyed). k.key) (slice_cmp nat_cmp)) (on (λ (k : Keyed). k.held) value_cmp)
+keyed_cmp = then_cmp (on (λ (k : Keyed). k.key) (slice_cmp nat_cmp)) (on (λ (k : Keyed). k.indexed) value_cmp)
 
 abbrev pub is_one_keyed : Keyed → Keyed → Bool
 is_one_keyed = eq_by_cmp keyed_cmp
 
 pub keyed_total : IsTotalOrder keyed_cmp
-keyed_total = then_total (on_total (λ (k : Keyed). k.key) nat_list_cmp_total) (on_total (λ (k : Keyed). k.held) value_total)
+keyed_total = then_total (on_total (λ (k : Keyed). k.key) nat_list_cmp_total) (on_total (λ (k : Keyed). k.indexed) value_total)
 
 pub keyed_equiv : IsEquivalence is_one_keyed
 keyed_equiv = eq_by_cmp_equiv keyed_total
@@ -64,7 +64,7 @@ Orders = BTreeMap Wanted Keys
 
 -- whether the value is among them under the key
 abbrev pub has_key : Keys → List ℕ → Value → Bool
-has_key keys key value = contains keyed_cmp keys (record { key = key; held = value })
+has_key keys key value = contains keyed_cmp keys (record { key = key; indexed = value })
 
 -- each of them stands under its own key
 abbrev pub AreKeys : Bool → Bool → Keys → Type 0
@@ -107,11 +107,11 @@ edge_key e = None
 
 -- what is before all texts of the key: no text is before the empty one
 abbrev pub before_texts : List ℕ → Keyed
-before_texts key = record { key = key; held = value.Text [] }
+before_texts key = record { key = key; indexed = value.Text [] }
 
 -- what is after all texts of the key: each text is before all numbers
 abbrev pub after_texts : List ℕ → Keyed
-after_texts key = record { key = key; held = value.Number (ℤ.pos 0) }
+after_texts key = record { key = key; indexed = value.Number (ℤ.pos 0) }
 
 -- whether only texts are between the edges
 abbrev pub is_of_texts : Probe → Bool
@@ -120,7 +120,7 @@ is_of_texts probe = is_some (edge_key probe.low) || is_some (edge_key probe.high
 -- whether a place is counted at one of these whose key is between the edges
 abbrev pub counted_keyed : Probe → BTreeMap Value Places → List Keyed → ℕ → Bool
 counted_keyed probe values keys place =
-    list_any (λ (k : Keyed). is_key_between probe k.key && is_on (value_state values k.held place)) keys
+    list_any (λ (k : Keyed). is_key_between probe k.key && is_on (value_state values k.indexed place)) keys
 
 -- whether the first is not after the second
 abbrev pub is_upward : Option Keyed → Option Keyed → Bool

@@ -17,7 +17,7 @@ use crate::keys;
 use crate::names::{self, Names};
 use crate::orders::{self, Orders};
 use crate::places::{self, Places};
-use crate::range::{Found, all_between, places_between, rows_among};
+use crate::range::{PlacesFound, all_between, places_between, rows_among};
 use crate::stretch::is_of_texts;
 use crate::wanted::Wanted;
 use md_world::Row;
@@ -215,7 +215,7 @@ impl Index {
 
     /// The same places, or, where there are more than `most`, more than `most` of them. Finding out that there are more
     /// costs no more than finding so many.
-    pub fn range_within(&self, probe: &Probe, most: usize) -> Result<Found, AllocError>
+    pub fn range_within(&self, probe: &Probe, most: usize) -> Result<PlacesFound, AllocError>
         requires { is_same probe.now.name text_content ≡ false }
         ensures places { IfOk result (λ found. (rows : ℕ → Option Row) → Holds self.now rows → Adds [] found.places.items found.whole (λ p. row_between probe.now (rows p))) }
         ensures over { IfOk result (λ found. found.whole ≡ false → most < length found.places.items) }
@@ -230,7 +230,7 @@ impl Index {
                 probe,
                 most,
             ),
-            None => Ok(Found {
+            None => Ok(PlacesFound {
                 places: Vec::new(self.alloc),
                 whole: true,
             }),
@@ -238,7 +238,7 @@ impl Index {
     }
 
     /// The places that have a row, or, where there are more than `most`, more than `most` of them.
-    pub fn rows_within(&self, most: usize) -> Result<Found, AllocError>
+    pub fn rows_within(&self, most: usize) -> Result<PlacesFound, AllocError>
         ensures places { IfOk result (λ found. (rows : ℕ → Option Row) → Holds self.now rows → Adds [] found.places.items found.whole (λ p. is_some (rows p))) }
         ensures over { IfOk result (λ found. found.whole ≡ false → most < length found.places.items) }
         ensures upward { IfOk result (λ found. IsStrictlyIncreasing found.places.items) }

@@ -6,7 +6,7 @@ ghost use Rattle.std.specs.Ordering.{as_partial_cmp};
 ghost use Rattle.std.proofs.Common.{rules};
 ghost use Rattle.md_index.specs.Keys.{keyed_cmp, is_one_keyed, keyed_equiv, keyed_total};
 
-use crate::held::Held;
+use crate::indexed_value::IndexedValue;
 use md_text::Key;
 use std::cmp::Ordering;
 
@@ -14,7 +14,7 @@ use std::cmp::Ordering;
 #[derive(Debug, Drop)]
 pub struct Keyed {
     pub key: Key,
-    pub held: Held,
+    pub indexed: IndexedValue,
 }
 
 impl PartialEq for Keyed {
@@ -43,7 +43,7 @@ impl Ord for Keyed {
     fn cmp(&self, other: &Keyed) -> Ordering
         ensures { result ≡ keyed_cmp self.now other.now }
     {
-        self.key.cmp(&other.key).then(self.held.cmp(&other.held))
+        self.key.cmp(&other.key).then(self.indexed.cmp(&other.indexed))
     }
 }
 

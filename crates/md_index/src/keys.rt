@@ -9,7 +9,7 @@ ghost use Rattle.md_index.specs.Between.{mark_of};
 ghost use Rattle.md_index.specs.States.{is_on, named_state, value_state};
 ghost use Rattle.md_index.specs.Keys.{AreKeys, has_key};
 
-use crate::held::Held;
+use crate::indexed_value::IndexedValue;
 use crate::keyed::Keyed;
 use crate::values::Values;
 use md_text::Key;
@@ -23,20 +23,20 @@ pub type Keys = BTreeSet<Keyed>;
 pub fn insert(
     alloc: Global,
     keys: &mut Keys,
-    held: &Held,
+    indexed: &IndexedValue,
     fold: bool,
     marks: bool,
 ) -> Result<(), AllocError>
     ensures right { AreKeys fold marks keys.old → AreKeys fold marks keys.new }
     ensures kept { (k : List ℕ) (v : OneValue) → has_key keys.old k v ≡ true → has_key keys.new k v ≡ true }
-    ensures there { OnOk result ((k : List ℕ) → mark_of fold marks held.now ≡ text_mark k → has_key keys.new k held.now ≡ true) }
+    ensures there { OnOk result ((k : List ℕ) → mark_of fold marks indexed.now ≡ text_mark k → has_key keys.new k indexed.now ≡ true) }
 {
-    let Value::Text(text) = held.value() else {
+    let Value::Text(text) = indexed.value() else {
         return Ok(());
     };
     let key = Key::of(alloc, text.as_str(), fold, marks)?;
-    let held = held.copy(alloc)?;
-    keys.insert(Keyed { key, held })?;
+    let indexed = indexed.copy(alloc)?;
+    keys.insert(Keyed { key, indexed })?;
     Ok(())
 }
 
@@ -46,8 +46,8 @@ fn of_each(alloc: Global, values: &Values, fold: bool, marks: bool) -> Result<Ke
     ensures whole { IfOk result (λ keys. (k : List ℕ) (v : OneValue) (p : ℕ) → mark_of fold marks v ≡ text_mark k → is_on (value_state values.now v p) ≡ true → has_key keys k v ≡ true) }
 {
     let mut keys = BTreeSet::new(alloc);
-    for (held, _) in values {
-        insert(alloc, &mut keys, held, fold, marks)?;
+    for (indexed, _) in values {
+        insert(alloc, &mut keys, indexed, fold, marks)?;
     }
     Ok(keys)
 }

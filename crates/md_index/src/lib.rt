@@ -4,7 +4,7 @@
 mod between;
 mod blocks;
 mod facts;
-mod held;
+mod indexed_value;
 mod index;
 mod keyed;
 mod keys;
@@ -20,4 +20,4 @@ mod wanted;
 
 pub use between::{Edge, Mark, Probe};
 pub use index::{Index, IndexReady};
-pub use range::{Found, in_order};
+pub use range::{PlacesFound, in_order};

@@ -24,7 +24,7 @@ fn add_under(
     marks: bool,
 ) -> Result<(), AllocError>
     ensures grows { Grows orders.old orders.new }
-    ensures there { OnOk result ((k : List ℕ) → mark_of fold marks fact.now.held ≡ text_mark k → is_keyed (keys_at orders.new (record { name = fact.now.name; fold = fold; marks = marks })) k fact.now.held ≡ true) }
+    ensures there { OnOk result ((k : List ℕ) → mark_of fold marks fact.now.indexed ≡ text_mark k → is_keyed (keys_at orders.new (record { name = fact.now.name; fold = fold; marks = marks })) k fact.now.indexed ≡ true) }
 {
     let wanted = Wanted {
         name: fact.name.copy(alloc)?,
@@ -32,7 +32,7 @@ fn add_under(
         marks,
     };
     if let Some(keys) = orders.get_mut(&wanted) {
-        return keys::insert(alloc, keys, &fact.held, fold, marks);
+        return keys::insert(alloc, keys, &fact.indexed, fold, marks);
     }
     Ok(())
 }
@@ -40,7 +40,7 @@ fn add_under(
 // Adds the keys of a text, with case folded or not.
 fn add_folded(alloc: Global, orders: &mut Orders, fact: &Fact, fold: bool) -> Result<(), AllocError>
     ensures grows { Grows orders.old orders.new }
-    ensures there { OnOk result ((marks : Bool) (k : List ℕ) → mark_of fold marks fact.now.held ≡ text_mark k → is_keyed (keys_at orders.new (record { name = fact.now.name; fold = fold; marks = marks })) k fact.now.held ≡ true) }
+    ensures there { OnOk result ((marks : Bool) (k : List ℕ) → mark_of fold marks fact.now.indexed ≡ text_mark k → is_keyed (keys_at orders.new (record { name = fact.now.name; fold = fold; marks = marks })) k fact.now.indexed ≡ true) }
 {
     add_under(alloc, orders, fact, fold, false)?;
     add_under(alloc, orders, fact, fold, true)
@@ -49,7 +49,7 @@ fn add_folded(alloc: Global, orders: &mut Orders, fact: &Fact, fold: bool) -> Re
 // Adds the keys of a text that are wanted.
 fn add(alloc: Global, orders: &mut Orders, fact: &Fact) -> Result<(), AllocError>
     ensures grows { Grows orders.old orders.new }
-    ensures there { OnOk result ((fold : Bool) (marks : Bool) (k : List ℕ) → mark_of fold marks fact.now.held ≡ text_mark k → is_keyed (keys_at orders.new (record { name = fact.now.name; fold = fold; marks = marks })) k fact.now.held ≡ true) }
+    ensures there { OnOk result ((fold : Bool) (marks : Bool) (k : List ℕ) → mark_of fold marks fact.now.indexed ≡ text_mark k → is_keyed (keys_at orders.new (record { name = fact.now.name; fold = fold; marks = marks })) k fact.now.indexed ≡ true) }
 {
     add_folded(alloc, orders, fact, false)?;
     add_folded(alloc, orders, fact, true)

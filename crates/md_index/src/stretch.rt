@@ -4,7 +4,7 @@ ghost use Rattle.std.specs.Option.{option_map};
 ghost use Rattle.md_index.specs.Keys.{before_texts, after_texts, edge_key, is_of_texts, IsStretchOf, is_upward};
 
 use crate::between::{Edge, Mark, Probe};
-use crate::held::Held;
+use crate::indexed_value::IndexedValue;
 use crate::keyed::Keyed;
 use md_text::Key;
 use md_value::{Copied, Text, Value};
@@ -50,7 +50,7 @@ fn before_texts(alloc: Global, edge: &Edge) -> Result<Option<Keyed>, AllocError>
     };
     Ok(Some(Keyed {
         key: key.copy(alloc)?,
-        held: Held::of(alloc, &Value::Text(empty(alloc)?))?,
+        indexed: IndexedValue::of(alloc, &Value::Text(empty(alloc)?))?,
     }))
 }
 
@@ -63,7 +63,7 @@ fn after_texts(alloc: Global, edge: &Edge) -> Result<Option<Keyed>, AllocError>
     };
     Ok(Some(Keyed {
         key: key.copy(alloc)?,
-        held: Held::of(alloc, &Value::Number(0))?,
+        indexed: IndexedValue::of(alloc, &Value::Number(0))?,
     }))
 }
 

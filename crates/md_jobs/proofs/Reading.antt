@@ -5,7 +5,7 @@ use Rattle.std.specs.Option.{option_map, option_to_list}
 use Rattle.std.proofs.lemmas.List.{map-append}
 use Rattle.md_value.specs.Values.{PathBytes}
 use Rattle.md_source.specs.Tree.{Content}
-use Rattle.md_files.specs.Answers.{IsAsked}
+use Rattle.md_files.specs.FileAnswers.{IsAsked}
 use Rattle.md_files.specs.declared.asking.ImportResult.{ImportResult}
 use Rattle.md_files.proofs.Turns.{in_turn_more, zip_more}
 use Rattle.md_script.specs.declared.script.Line.{Line}

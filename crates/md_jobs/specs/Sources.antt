@@ -4,8 +4,8 @@ use Rattle.md_value.specs.Values.{PathBytes}
 use Rattle.md_world.specs.declared.Change.{Change}
 use Rattle.md_world.specs.declared.Change.TheVariants as change
 use Rattle.md_merge.specs.Jobs.{Job}
-use Rattle.md_files.specs.Answers.{FileAnswer, outcome}
-use Rattle.md_files.specs.Answers.FileAnswer.{given, absent, failed}
+use Rattle.md_files.specs.FileAnswers.{FileAnswer, outcome}
+use Rattle.md_files.specs.FileAnswers.FileAnswer.{given, absent, failed}
 use Rattle.md_files.specs.declared.asking.ImportResult.{ImportResult}
 use Rattle.md_live.specs.Actions.{Action, change_of}
 use Rattle.md_live.specs.Actions.Action.{job, removal}

@@ -3,8 +3,8 @@ ghost use Rattle.std.specs.Prelude.{◌≡◌, ◌≤◌, ◌++◌, length, IfOk
 ghost use Rattle.std.specs.Option.{option_to_list};
 ghost use Rattle.md_value.specs.Values.{IsMoment};
 ghost use Rattle.md_script.specs.Limits.{most_lines};
-ghost use Rattle.md_files.specs.Answers.{IsAsked, IsRead, InTurnSoFar};
-ghost use Rattle.md_files.specs.Answers.FileAnswer.{given};
+ghost use Rattle.md_files.specs.FileAnswers.{IsAsked, IsRead, InTurnSoFar};
+ghost use Rattle.md_files.specs.FileAnswers.FileAnswer.{given};
 ghost use Rattle.md_live.specs.Given.{IsGiven};
 ghost use Rattle.md_live.specs.Moments.{moment_of};
 ghost use Rattle.md_jobs.specs.Sources.{answer_of};
@@ -33,9 +33,9 @@ fn moment_of(now: i64, ms: u64) -> i64
 // The first bytes of a file whose entry a tree gave.
 fn read_found<T: Tree>(alloc: Global, tree: &mut T, entry: Entry) -> Result<FileSource, AllocError>
     requires { IsMoment entry.changed }
-    ensures asked { IfOk result (λ source. IsRead (T.content tree.old) (T.faults tree.old) (T.faults tree.new) entry (answer_of source)) }
-    ensures kept { OnErr result (T.faults tree.new ≡ T.faults tree.old) }
-    ensures later { T.faults tree.old ≤ T.faults tree.new }
+    ensures asked { IfOk result (λ source. IsRead (T.content tree.old) (T.failures tree.old) (T.failures tree.new) entry (answer_of source)) }
+    ensures kept { OnErr result (T.failures tree.new ≡ T.failures tree.old) }
+    ensures later { T.failures tree.old ≤ T.failures tree.new }
     ensures content { T.content tree.new ≡ T.content tree.old }
 {
     match read_prefix(alloc, tree, &entry.path) {
@@ -48,9 +48,9 @@ fn read_found<T: Tree>(alloc: Global, tree: &mut T, entry: Entry) -> Result<File
 
 // What a tree answers where it is asked for the file of a path.
 fn read_file<T: Tree>(alloc: Global, tree: &mut T, path: &Path) -> Result<FileSource, AllocError>
-    ensures asked { IfOk result (λ source. IsAsked (T.content tree.old) (T.faults tree.old) (T.faults tree.new) path.now (answer_of source)) }
-    ensures kept { OnErr result (T.faults tree.new ≡ T.faults tree.old) }
-    ensures later { T.faults tree.old ≤ T.faults tree.new }
+    ensures asked { IfOk result (λ source. IsAsked (T.content tree.old) (T.failures tree.old) (T.failures tree.new) path.now (answer_of source)) }
+    ensures kept { OnErr result (T.failures tree.new ≡ T.failures tree.old) }
+    ensures later { T.failures tree.old ≤ T.failures tree.new }
     ensures content { T.content tree.new ≡ T.content tree.old }
 {
     match tree.find(alloc, path) {
@@ -88,9 +88,9 @@ fn read_job<T: Tree>(
     line: &Line,
 ) -> Result<Option<ScriptJob>, AllocError>
     requires { IsMoment start.now.moment }
-    ensures made { IfOk result (λ made. Makes (T.content tree.old) (T.faults tree.old) (T.faults tree.new) start.now.moment start.now.offset line.now made) }
-    ensures kept { OnErr result (T.faults tree.new ≡ T.faults tree.old) }
-    ensures later { T.faults tree.old ≤ T.faults tree.new }
+    ensures made { IfOk result (λ made. Makes (T.content tree.old) (T.failures tree.old) (T.failures tree.new) start.now.moment start.now.offset line.now made) }
+    ensures kept { OnErr result (T.failures tree.new ≡ T.failures tree.old) }
+    ensures later { T.failures tree.old ≤ T.failures tree.new }
     ensures content { T.content tree.new ≡ T.content tree.old }
 {
     match &line.what {
@@ -131,10 +131,10 @@ fn read_all<T: Tree>(
     lines: &[Line],
 ) -> Result<Vec<ScriptJob>, AllocError>
     requires { IsMoment start.now.moment }
-    ensures jobs { IfOk result (λ jobs. Reads (T.content tree.old) (T.faults tree.old) (T.faults tree.new) start.now.moment start.now.offset lines.now jobs.items) }
+    ensures jobs { IfOk result (λ jobs. Reads (T.content tree.old) (T.failures tree.old) (T.failures tree.new) start.now.moment start.now.offset lines.now jobs.items) }
     ensures few { IfOk result (λ jobs. length jobs.items ≤ length lines.now) }
-    ensures so_far { InTurnSoFar (IsGiven start.now.offset (T.content tree.old)) (T.faults tree.old) (T.faults tree.new) lines.now }
-    ensures later { T.faults tree.old ≤ T.faults tree.new }
+    ensures so_far { InTurnSoFar (IsGiven start.now.offset (T.content tree.old)) (T.failures tree.old) (T.failures tree.new) lines.now }
+    ensures later { T.failures tree.old ≤ T.failures tree.new }
     ensures content { T.content tree.new ≡ T.content tree.old }
 {
     let mut jobs = Vec::new(alloc);
@@ -155,12 +155,12 @@ pub fn read_jobs<T: Tree>(
 ) -> Result<ScriptJobs, AllocError>
     requires few { length lines.now ≤ most_lines }
     requires moment { IsMoment start.now.moment }
-    ensures jobs { IfOk result (λ jobs. Reads (T.content tree.old) (T.faults tree.old) (T.faults tree.new) start.now.moment start.now.offset lines.now jobs.jobs) }
+    ensures jobs { IfOk result (λ jobs. Reads (T.content tree.old) (T.failures tree.old) (T.failures tree.new) start.now.moment start.now.offset lines.now jobs.jobs) }
     ensures offset { IfOk result (λ jobs. jobs.offset ≡ start.now.offset) }
     ensures few { IfOk result (λ jobs. length jobs.jobs ≤ length lines.now) }
     // Also where memory runs out, some of the first of the imported files were asked for in turn, or all, and no others.
-    ensures so_far { InTurnSoFar (IsGiven start.now.offset (T.content tree.old)) (T.faults tree.old) (T.faults tree.new) lines.now }
-    ensures later { T.faults tree.old ≤ T.faults tree.new }
+    ensures so_far { InTurnSoFar (IsGiven start.now.offset (T.content tree.old)) (T.failures tree.old) (T.failures tree.new) lines.now }
+    ensures later { T.failures tree.old ≤ T.failures tree.new }
     ensures content { T.content tree.new ≡ T.content tree.old }
 {
     let jobs = read_all(alloc, tree, start, lines)?;

@@ -2,7 +2,7 @@
 ghost use Rattle.std.specs.Prelude.{◌≡◌, IfOk};
 ghost use Rattle.md_value.specs.Values.{IsMoment};
 ghost use Rattle.imp_kind.specs.Imports.{import};
-ghost use Rattle.md_files.specs.Answers.{of_import};
+ghost use Rattle.md_files.specs.FileAnswers.{of_import};
 ghost use Rattle.md_live.specs.Actions.{change_of};
 ghost use Rattle.md_jobs.specs.Sources.{given_by, task_change, job_in};
 

@@ -1,4 +1,4 @@
--- How many askings of imported files failed, and how the count of faults went with that.
+-- How many askings of imported files failed, and how the count of failures went with that.
 use Rattle.std.proofs.Common.{◌≡◌, ℕ, ℤ, ◌+◌, cond, List, [], ◌∷◌, sym, subst, Option, Some, None, Result, Ok, Err}
 use Rattle.std.proofs.lemmas.List.Sums.{sum_by-append}
 use Rattle.md_value.specs.Attrs.{Attr}
@@ -6,8 +6,8 @@ use Rattle.md_value.specs.Values.{PathBytes}
 use Rattle.md_value.specs.declared.fault.Fault.{Fault}
 use Rattle.md_source.specs.Tree.{Content}
 use Rattle.imp_kind.specs.Imports.{import}
-use Rattle.md_files.specs.Answers.{FileAnswer, IsAsked, IsCounted, of_import, outcome}
-use Rattle.md_files.specs.Answers.FileAnswer.{given, absent, failed}
+use Rattle.md_files.specs.FileAnswers.{FileAnswer, IsAsked, IsCounted, of_import, outcome}
+use Rattle.md_files.specs.FileAnswers.FileAnswer.{given, absent, failed}
 use Rattle.md_files.specs.declared.asking.ImportResult.{ImportResult}
 use Rattle.md_files.proofs.Counting.{counted_then, counted_same, counted_failed}
 use Rattle.md_script.specs.declared.script.Line.{Line}

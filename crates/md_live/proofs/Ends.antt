@@ -5,8 +5,8 @@ use Rattle.md_value.specs.Values.{PathBytes}
 use Rattle.md_source.specs.Causes.{Rose}
 use Rattle.md_source.specs.Tree.{Content}
 use Rattle.imp_kind.specs.Imports.{import}
-use Rattle.md_files.specs.Answers.{FileAnswer, IsAsked, Fails, outcome}
-use Rattle.md_files.specs.Answers.FileAnswer.{given, absent, failed}
+use Rattle.md_files.specs.FileAnswers.{FileAnswer, IsAsked, Fails, outcome}
+use Rattle.md_files.specs.FileAnswers.FileAnswer.{given, absent, failed}
 use Rattle.md_files.specs.Findings.{Finding, is_failed, is_absent}
 use Rattle.md_files.specs.Findings.Finding.{named}
 use Rattle.md_files.specs.Reports.{FileReport, EndHasCause, tells_file}
@@ -26,7 +26,7 @@ use Rattle.md_live.specs.Reports.{Runs, finding_of, report_of_actions}
 use Rattle.md_live.proofs.Counting.{are_given_counted}
 use Rattle.md_live.proofs.Headline.{one_run}
 
--- the count of faults rose where something failed, and stands otherwise
+-- the count of failures rose where something failed, and stands otherwise
 abbrev Stands : Bool → ℕ → ℕ → Type 0
 Stands true before now = Fails before now
 Stands false before now = now ≡ before

@@ -15,7 +15,7 @@ use Rattle.md_machine.specs.Runs.{run, entries, received, taken_in, held}
 use Rattle.md_machine.proofs.Law.{held_is_answer}
 use Rattle.md_machine.proofs.Queries.{key_of, found_key, own_place}
 use Rattle.md_hub.specs.Given.{given_by}
-use Rattle.md_hub.specs.declared.held.Held.{Held}
+use Rattle.md_hub.specs.declared.held_rows.HeldRows.{HeldRows}
 use Rattle.md_notice.specs.Following.{Followed, follower_of, with_part}
 use Rattle.md_render.specs.Texts.{held_text, follower_text}
 use Rattle.md_live.specs.Texts.{shown_text}
@@ -79,5 +79,5 @@ module _ (events : List Event) (client number : ℕ) where
       ] refl
 
 -- a follower that took the hits given holds them in order
-pub follows_so : (given : Held) (old new : Followed) → old ≡ follower_of given.order given.version → new ≡ with_part old (record { hits = given.rows; last = true }) → new ≡ followed given
+pub follows_so : (given : HeldRows) (old new : Followed) → old ≡ follower_of given.order given.version → new ≡ with_part old (record { hits = given.rows; last = true }) → new ≡ followed given
 follows_so given old new begun took = took ∙ ap (λ (f : Followed). with_part f (record { hits = given.rows; last = true })) begun

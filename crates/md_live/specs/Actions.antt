@@ -8,7 +8,7 @@ use Rattle.md_machine.specs.declared.Event.{Event}
 use Rattle.md_machine.specs.declared.Event.TheVariants as event
 use Rattle.md_machine.specs.Answers.{spec_of}
 use Rattle.imp_kind.specs.Imports.{import}
-use Rattle.md_files.specs.Answers.{of_import}
+use Rattle.md_files.specs.FileAnswers.{of_import}
 use Rattle.md_files.specs.declared.asking.ImportResult.{ImportResult}
 use Rattle.md_files.specs.declared.asking.ImportResult.TheVariants as file
 use Rattle.md_script.specs.declared.script.What.{What}

@@ -3,7 +3,7 @@ use Rattle.std.specs.Prelude.{◌≡◌, ℕ, ℤ, Bool, true, false, List, coun
 use Rattle.std.specs.List.{filter_map}
 use Rattle.md_value.specs.Values.{PathBytes}
 use Rattle.md_source.specs.Tree.{Content}
-use Rattle.md_files.specs.Answers.{IsAsked, Gives, InTurn}
+use Rattle.md_files.specs.FileAnswers.{IsAsked, Gives, InTurn}
 use Rattle.md_files.specs.Reports.{tells_files}
 use Rattle.md_files.specs.declared.asking.ImportResult.{ImportResult}
 use Rattle.md_files.specs.declared.asking.ImportResult.TheVariants as asked

@@ -2,7 +2,7 @@
 use Rattle.std.specs.Prelude.{◌≡◌, ℕ, ℤ, List, Option, None, Some}
 use Rattle.std.specs.List.{filter_map}
 use Rattle.md_source.specs.Tree.{Content}
-use Rattle.md_files.specs.Answers.{IsCounted}
+use Rattle.md_files.specs.FileAnswers.{IsCounted}
 use Rattle.md_files.specs.Findings.{Finding}
 use Rattle.md_files.specs.Findings.Finding.{named}
 use Rattle.md_files.specs.Reports.{FileReport, report_of}
@@ -23,7 +23,7 @@ abbrev pub report_of_actions : List Action → FileReport
 report_of_actions actions = report_of (run_text actions) (filter_map finding_of actions)
 
 -- the report is what a run of these lines prints, which began now at an offset, with what the tree gives to each line; as
--- many askings as failed, the count of faults rose by no less
+-- many askings as failed, the count of failures rose by no less
 pub record Runs (known : Option Content) (before after : ℕ) (now offset : ℤ) (lines : List Line) (report : FileReport) : Type 0 where
   pub givens : List (Option ImportResult)
   pub given : AreGiven offset known before after lines givens

@@ -5,7 +5,7 @@ use Rattle.md_world.specs.Holding.{with_rows}
 use Rattle.md_world.specs.Orders.{in_order}
 use Rattle.md_world.specs.Limits.{standard}
 use Rattle.md_hub.specs.Given.{given_by}
-use Rattle.md_hub.specs.declared.held.Held.{Held}
+use Rattle.md_hub.specs.declared.held_rows.HeldRows.{HeldRows}
 use Rattle.md_machine.specs.declared.Event.{Event}
 use Rattle.md_machine.specs.declared.Event.TheVariants as event
 use Rattle.md_machine.specs.States.{State, opening, query_at}
@@ -54,7 +54,7 @@ noting t (job path given) = record t { report = noted t.report (named path given
 noting t _ = t
 
 -- the hits that a live query has given, in its order
-abbrev pub followed : Held → Followed
+abbrev pub followed : HeldRows → Followed
 followed held = record { order = held.order; rows = in_order held.order (with_rows [] held.rows); version = held.version }
 
 -- those of the query of a client and a number, if it is live
@@ -71,7 +71,7 @@ abbrev pub after_actions : Telling → List Action → Telling
 after_actions t actions = fold after_action t actions
 
 -- how many hits a live query has given; none where there is no query
-abbrev pub given_count : Option Held → ℕ
+abbrev pub given_count : Option HeldRows → ℕ
 given_count None = 0
 given_count (Some held) = length held.rows
 

@@ -5,7 +5,7 @@ ghost use Rattle.md_machine.specs.States.{query_at};
 ghost use Rattle.md_hub.specs.Given.{given_by};
 ghost use Rattle.md_hub.specs.Stepping.{IsStep};
 
-use md_hub::{Held, Hub};
+use md_hub::{HeldRows, Hub};
 use md_machine::{Event, Reply};
 use md_world::{Row, Steps};
 use std::alloc::{AllocError, Global};
@@ -34,7 +34,7 @@ fn held_counted<L: Ledger>(
     client: u8,
     number: u32,
     blank: Blank,
-) -> Result<Option<Held>, AllocError>
+) -> Result<Option<HeldRows>, AllocError>
     requires name { blank.name ≡ L.name }
     requires parts { (blank.parts ≡ L.parts) × (0 < L.parts) }
     ensures { IfOk result (λ held. held ≡ option_map given_by (query_at hub.now.state.queries client number)) }
@@ -44,7 +44,7 @@ fn held_counted<L: Ledger>(
 }
 
 /// What a live query has given, if there is one. Fails only where memory runs out.
-pub fn held(alloc: Global, hub: &Hub, client: u8, number: u32) -> Result<Option<Held>, AllocError>
+pub fn held(alloc: Global, hub: &Hub, client: u8, number: u32) -> Result<Option<HeldRows>, AllocError>
     ensures { IfOk result (λ held. held ≡ option_map given_by (query_at hub.now.state.queries client number)) }
 {
     held_counted::<Brand>(alloc, hub, client, number, Blank::new(1))

@@ -1,6 +1,6 @@
 // What the tree gives to the `import` lines of a script.
 ghost use Rattle.std.specs.Prelude.{◌≡◌, ◌≤◌, IfOk, OnErr, Some};
-ghost use Rattle.md_files.specs.Answers.{Gives, IsAsked, InTurnSoFar};
+ghost use Rattle.md_files.specs.FileAnswers.{Gives, IsAsked, InTurnSoFar};
 ghost use Rattle.md_live.specs.Given.{IsGiven, AreGiven};
 
 use md_files::{ImportResult, ask_file};
@@ -15,9 +15,9 @@ fn give<T: Tree>(
     offset: i32,
     line: &Line,
 ) -> Result<Option<ImportResult>, AllocError>
-    ensures given { IfOk result (λ given. IsGiven offset (T.content tree.old) (T.faults tree.old) (T.faults tree.new) line.now given) }
-    ensures kept { OnErr result (T.faults tree.new ≡ T.faults tree.old) }
-    ensures later { T.faults tree.old ≤ T.faults tree.new }
+    ensures given { IfOk result (λ given. IsGiven offset (T.content tree.old) (T.failures tree.old) (T.failures tree.new) line.now given) }
+    ensures kept { OnErr result (T.failures tree.new ≡ T.failures tree.old) }
+    ensures later { T.failures tree.old ≤ T.failures tree.new }
     ensures content { T.content tree.new ≡ T.content tree.old }
 {
     match &line.what {
@@ -34,10 +34,10 @@ pub fn give_all<T: Tree>(
     offset: i32,
     lines: &[Line],
 ) -> Result<Vec<Option<ImportResult>>, AllocError>
-    ensures given { IfOk result (λ givens. AreGiven offset (T.content tree.old) (T.faults tree.old) (T.faults tree.new) lines.now givens.items) }
+    ensures given { IfOk result (λ givens. AreGiven offset (T.content tree.old) (T.failures tree.old) (T.failures tree.new) lines.now givens.items) }
     // Also where memory runs out.
-    ensures so_far { InTurnSoFar (IsGiven offset (T.content tree.old)) (T.faults tree.old) (T.faults tree.new) lines.now }
-    ensures later { T.faults tree.old ≤ T.faults tree.new }
+    ensures so_far { InTurnSoFar (IsGiven offset (T.content tree.old)) (T.failures tree.old) (T.failures tree.new) lines.now }
+    ensures later { T.failures tree.old ≤ T.failures tree.new }
     ensures content { T.content tree.new ≡ T.content tree.old }
 {
     let mut givens = Vec::new(alloc);

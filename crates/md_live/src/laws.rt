@@ -2,7 +2,7 @@
 ghost use Rattle.std.specs.Prelude.{◌≡◌, ◌++◌, ℕ, ℤ, List, Ok, Option};
 ghost use Rattle.md_source.specs.Tree.{Content};
 ghost use Rattle.md_machine.specs.declared.Event.{Event};
-ghost use Rattle.md_files.specs.Answers.{IsCounted};
+ghost use Rattle.md_files.specs.FileAnswers.{IsCounted};
 ghost use Rattle.md_files.specs.declared.asking.ImportResult.{ImportResult};
 ghost use Rattle.md_script.specs.declared.script.Line.{Line};
 ghost use Rattle.md_script.specs.Scripts.{verdict};
@@ -24,7 +24,7 @@ pub fn files_ascend()
         → verdict bytes ≡ Ok lines → run_events (actions_of now offset lines givens) ≡ before ++ rest → FilesAscend before }
 {}
 
-/// Of the askings of the files that lines import, no more failed than the count of faults rose by, unless it stands at its
+/// Of the askings of the files that lines import, no more failed than the count of failures rose by, unless it stands at its
 /// type's end; and it stands where none failed.
 pub fn askings_are_counted()
     ensures { (offset : ℤ) (known : Option Content) (before now : ℕ) (lines : List Line) (givens : List (Option ImportResult))

@@ -3,7 +3,7 @@ ghost use Rattle.std.specs.Prelude.{◌≡◌, ◌≤◌, true, false, IfOk, IfS
 ghost use Rattle.md_script.specs.Limits.{most_lines};
 ghost use Rattle.md_source.specs.Causes.{Rose};
 ghost use Rattle.md_value.specs.Values.{IsMoment};
-ghost use Rattle.md_files.specs.Answers.{InTurnSoFar};
+ghost use Rattle.md_files.specs.FileAnswers.{InTurnSoFar};
 ghost use Rattle.md_files.specs.Reports.{EndHasCause};
 ghost use Rattle.md_live.specs.Given.{IsGiven, tells_imports};
 ghost use Rattle.md_live.specs.Actions.{actions_of};
@@ -70,20 +70,20 @@ pub fn run<T: Tree>(
     requires few { length lines.now ≤ most_lines }
     requires moment { IsMoment start.now.moment }
     requires timely { out_of_range start.now.moment start.now.offset lines.now ≡ None }
-    ensures runs { IfOk result (λ report. Runs (T.content tree.old) (T.faults tree.old) (T.faults tree.new) start.now.moment start.now.offset lines.now report) }
+    ensures runs { IfOk result (λ report. Runs (T.content tree.old) (T.failures tree.old) (T.failures tree.new) start.now.moment start.now.offset lines.now report) }
     // Over the run's events, what each client holds is its answer on one committed version, and the text is that run's.
-    ensures headline { IfOk result (λ report. Headline (T.content tree.old) (T.faults tree.old) (T.faults tree.new) start.now.moment start.now.offset lines.now report) }
-    ensures cause { IfOk result (λ report. EndHasCause (T.faults tree.old) (T.faults tree.new) report.end) }
+    ensures headline { IfOk result (λ report. Headline (T.content tree.old) (T.failures tree.old) (T.failures tree.new) start.now.moment start.now.offset lines.now report) }
+    ensures cause { IfOk result (λ report. EndHasCause (T.failures tree.old) (T.failures tree.new) report.end) }
     // Also where memory runs out, some of the first of the imported files were asked for in turn, or all, and no others.
-    ensures so_far { InTurnSoFar (IsGiven start.now.offset (T.content tree.old)) (T.faults tree.old) (T.faults tree.new) lines.now }
-    ensures later { T.faults tree.old ≤ T.faults tree.new }
+    ensures so_far { InTurnSoFar (IsGiven start.now.offset (T.content tree.old)) (T.failures tree.old) (T.failures tree.new) lines.now }
+    ensures later { T.failures tree.old ≤ T.failures tree.new }
     ensures content { T.content tree.new ≡ T.content tree.old }
 
     // Where the content is known.
     ensures absent { IfOk result (λ report. IfSome (T.content tree.old) (λ content.
         report.end ≡ End.Absent → tells_imports content lines.now ≡ false)) }
     ensures complete { IfOk result (λ report. IfSome (T.content tree.old) (λ content.
-        tells_imports content lines.now ≡ true → ¬ (Rose (T.faults tree.old) (T.faults tree.new)) → report.end ≡ End.Ok)) }
+        tells_imports content lines.now ≡ true → ¬ (Rose (T.failures tree.old) (T.failures tree.new)) → report.end ≡ End.Ok)) }
 {
     let givens = give_all(alloc, tree, start.offset, lines)?;
     run_given(alloc, start, lines, givens)

@@ -26,7 +26,7 @@ use md_render::{entry_text, held_text};
 use md_script::{Line, What};
 use md_source::Entry;
 use md_time::LocalTime;
-use md_value::{Copied, Items, Path};
+use md_value::{Copied, PlainVec, Path};
 use md_world::{Change, Limits, Order, Part};
 use std::alloc::{AllocError, Global};
 use std::marker::Model;
@@ -310,10 +310,10 @@ impl Session {
     }
 
     // How many rows the query of each of these clients has given it.
-    fn held_counts(&self, alloc: Global, clients: &[u8]) -> Result<Items<usize>, AllocError>
+    fn held_counts(&self, alloc: Global, clients: &[u8]) -> Result<PlainVec<usize>, AllocError>
         ensures { IfOk result (λ counts. counts ≡ map (given_to self.now.state) clients.now) }
     {
-        let mut counts = Items::new(alloc);
+        let mut counts = PlainVec::new(alloc);
         for client in clients {
             counts.push(self.held_count(alloc, *client)?)?;
         }

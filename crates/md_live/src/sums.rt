@@ -14,7 +14,7 @@ use md_files::ImportResult;
 use md_script::Line;
 use md_source::Tree;
 use md_time::LocalTime;
-use md_value::Items;
+use md_value::PlainVec;
 use std::alloc::{AllocError, Global};
 
 /// What a run comes to.
@@ -28,7 +28,7 @@ pub struct Sum {
     pub rows: usize,
     pub tally: Tally,
     /// For each of the clients that were asked about, how many rows it holds by its query 1.
-    pub held: Items<usize>,
+    pub held: PlainVec<usize>,
 }
 
 // Sums up the run of the lines, with what was given to each.
@@ -60,8 +60,8 @@ pub fn sum_up<T: Tree>(
     requires few { length lines.now ≤ most_lines }
     requires moment { IsMoment start.now.moment }
     requires timely { out_of_range start.now.moment start.now.offset lines.now ≡ None }
-    ensures sums { IfOk result (λ sum. Sums (T.content tree.old) (T.faults tree.old) (T.faults tree.new) start.now.moment start.now.offset lines.now clients.now sum) }
-    ensures later { T.faults tree.old ≤ T.faults tree.new }
+    ensures sums { IfOk result (λ sum. Sums (T.content tree.old) (T.failures tree.old) (T.failures tree.new) start.now.moment start.now.offset lines.now clients.now sum) }
+    ensures later { T.failures tree.old ≤ T.failures tree.new }
     ensures content { T.content tree.new ≡ T.content tree.old }
 {
     let givens = give_all(alloc, tree, start.offset, lines)?;

@@ -19,7 +19,7 @@ use Rattle.md_machine.specs.declared.Reply.{Reply}
 use Rattle.md_machine.specs.declared.Reply.TheVariants as reply
 use Rattle.md_machine.specs.Answers.{condition_of, answer, shown_answer, diff, notice_of}
 use Rattle.md_machine.specs.States.{Ticket, Stamp, Phase, Gathering, Finished, Query, State, opening, ticket_at, stamp_at, query_at, queries_of}
-use Rattle.md_machine.specs.Steps.{StepResult, Answered, step, commit, commit_over, close, create, outcome_of, stop, gather, gather_in, next_part, most_hits, disable, enable, enable_in, poll, poll_in, pending, is_due}
+use Rattle.md_machine.specs.Steps.{StepResult, Answered, step, commit, commit_over, close, create, step_result, stop, gather, gather_in, next_part, most_hits, disable, enable, enable_in, poll, poll_in, pending, is_due}
 use Rattle.md_machine.specs.Runs.{Past, grown, changed_by, past_of, tables_of, run_from, run, entries, versions, is_of, received_more, received_by, received, taken_in, held}
 use Rattle.md_machine.specs.Files.{IsNoRootDraw, DrawsNoRoot, NamesFiles, HandsOutFiles}
 use Rattle.md_machine.proofs.Lists.{by_cond, all_more}
@@ -111,7 +111,7 @@ module _ (s : State) (t : IsRowTable s.table) (bases : BasesAreFiles s) where
       by_cond Shows (is_some (query_at s.queries c n)) _ _ (λ _. tt)
       (λ _. by_cond Shows (nat_lt (queries_of s.queries c) s.limits.queries) _ _ (λ _. tt) (λ _. tt))
 
-  asked_shows : (ask : Query → Answered) → ((q : Query) → IsRowTable q.rows → Hands (ask q)) → (c n : ℕ) (o : Option Query) → query_at s.queries c n ≡ o → Shows (outcome_of s ask o)
+  asked_shows : (ask : Query → Answered) → ((q : Query) → IsRowTable q.rows → Hands (ask q)) → (c n : ℕ) (o : Option Query) → query_at s.queries c n ≡ o → Shows (step_result s ask o)
   asked_shows ask hands c n None h = tt
   asked_shows ask hands c n (Some q) h = hands q (bases q (own_place s.queries c n q h))
 

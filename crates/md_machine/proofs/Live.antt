@@ -13,7 +13,7 @@ use Rattle.md_machine.specs.declared.Event.{Event}
 use Rattle.md_machine.specs.declared.Event.TheVariants as event
 use Rattle.md_machine.specs.Answers.{shown_answer}
 use Rattle.md_machine.specs.States.{Ticket, Stamp, Phase, Gathering, Finished, Query, State, opening, ticket_at, stamp_at, with_stamp, is_query, query_at, queries_of}
-use Rattle.md_machine.specs.Steps.{StepResult, Answered, step, draw, commit, commit_over, committed, closed, close, new_query, create, outcome_of, stop, gather, gather_in, next_part, most_hits, disable, enable, enable_in, poll, poll_in, pending, is_due}
+use Rattle.md_machine.specs.Steps.{StepResult, Answered, step, draw, commit, commit_over, committed, closed, close, new_query, create, step_result, stop, gather, gather_in, next_part, most_hits, disable, enable, enable_in, poll, poll_in, pending, is_due}
 use Rattle.md_machine.specs.Runs.{run_from, run}
 use Rattle.md_machine.specs.Laws.{KeysAreDistinct, DisablesAreBounded, ClientsAreBounded, PendingIsWithin}
 use Rattle.md_machine.proofs.Lists.{by_cond, all_more, all_map}
@@ -149,7 +149,7 @@ module _ (limits : Limits) (s : State) (sound : AreSound limits s) where
       (λ _. sound))
 
   asked_sound : (ask : Query → Answered) → ((q : Query) → IsSound limits s.stamps q → IsSound limits s.stamps (ask q).query)
-      → (c n : ℕ) (o : Option Query) → query_at s.queries c n ≡ o → AreSound limits (outcome_of s ask o).state
+      → (c n : ℕ) (o : Option Query) → query_at s.queries c n ≡ o → AreSound limits (step_result s ask o).state
   asked_sound ask good c n None h = sound
   asked_sound ask good c n (Some q) h =
       record {

@@ -9,7 +9,7 @@ use crate::check::Check;
 use md_expr_tree::Expr;
 use md_time::LocalTime;
 use md_value::Attrs;
-use sqlite_items::{Boxed, Items};
+use sqlite_items::{Boxed, PlainVec};
 use std::alloc::{AllocError, Global};
 
 /// An expression with its keys made and its moments resolved.
@@ -20,16 +20,16 @@ pub enum Ready {
     /// Whether the other is not satisfied.
     Not(Boxed<Ready>),
     /// Whether all are satisfied.
-    All(Items<Ready>),
+    All(PlainVec<Ready>),
     /// Whether some are satisfied.
-    Any(Items<Ready>),
+    Any(PlainVec<Ready>),
 }
 
 #[cycle(made)]
-fn all_of(alloc: Global, list: &[Expr], local: &LocalTime) -> Result<Items<Ready>, AllocError>
+fn all_of(alloc: Global, list: &[Expr], local: &LocalTime) -> Result<PlainVec<Ready>, AllocError>
     ensures { IfOk result (λ rs. (attrs : List Attr) → map (λ r. is_satisfied r attrs) rs ≡ map (λ e. satisfies local.now.moment local.now.offset e attrs) list.now) }
 {
-    let mut all = Items::new(alloc);
+    let mut all = PlainVec::new(alloc);
     for e in list {
         all.push(Ready::of(alloc, e, local)?)?;
     }

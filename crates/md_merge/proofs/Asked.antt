@@ -12,40 +12,40 @@ use Rattle.md_machine.specs.declared.Reply.{Reply}
 use Rattle.md_machine.specs.declared.Reply.TheVariants as reply
 use Rattle.md_machine.specs.Answers.{shown_answer}
 use Rattle.md_machine.specs.States.{Phase, Gathering, Finished, Query, State, query_at, queries_of, ticket_at, stamp_at}
-use Rattle.md_machine.specs.Steps.{StepResult, Answered, step, outcome_of, create, stop, gather, gather_in, next_part, most_hits, disable, enable, enable_in, poll, poll_in, pending, is_due}
+use Rattle.md_machine.specs.Steps.{StepResult, Answered, step, step_result, create, stop, gather, gather_in, next_part, most_hits, disable, enable, enable_in, poll, poll_in, pending, is_due}
 use Rattle.md_machine.proofs.Lists.{by_cond}
 use Rattle.md_merge.specs.Jobs.{Job}
 use Rattle.md_merge.proofs.Drawing.{HasRoom}
 use Rattle.md_merge.proofs.Ending.{Holds, Goes}
 
 -- the query's reply finds room
-abbrev Answers : Answered → Type 0
-Answers a = HasRoom a.reply
+abbrev RepliesInRoom : Answered → Type 0
+RepliesInRoom a = HasRoom a.reply
 
-next_room : (q : Query) (given : ℕ) (left : List Row) (most : Option ℕ) (now : ℕ) → Answers (next_part q given left most now)
+next_room : (q : Query) (given : ℕ) (left : List Row) (most : Option ℕ) (now : ℕ) → RepliesInRoom (next_part q given left most now)
 next_room q given left None now = refl
-next_room q given left (Some most) now = by_cond Answers (nat_lt (length left) most) _ _ (λ _. refl) (λ _. refl)
+next_room q given left (Some most) now = by_cond RepliesInRoom (nat_lt (length left) most) _ _ (λ _. refl) (λ _. refl)
 
-gather_room : (q : Query) (now : ℕ) (phase : Phase) → Answers (gather_in q now phase)
+gather_room : (q : Query) (now : ℕ) (phase : Phase) → RepliesInRoom (gather_in q now phase)
 gather_room q now Finished = refl
 gather_room q now (Gathering given) =
-    by_cond Answers (nat_lt 0 q.disables) _ _ (λ _. refl)
+    by_cond RepliesInRoom (nat_lt 0 q.disables) _ _ (λ _. refl)
     (λ _. next_room q given (drop given (shown_answer q.spec q.rows)) (most_hits q.spec.batch given) now)
 
-disable_room : (limits : Limits) (q : Query) → Answers (disable limits q)
-disable_room limits q = by_cond Answers (nat_lt q.disables limits.disables) _ _ (λ _. refl) (λ _. refl)
+disable_room : (limits : Limits) (q : Query) → RepliesInRoom (disable limits q)
+disable_room limits q = by_cond RepliesInRoom (nat_lt q.disables limits.disables) _ _ (λ _. refl) (λ _. refl)
 
-enable_room : (s : State) (q : Query) (now count : ℕ) (phase : Phase) → Answers (enable_in s q now count phase)
+enable_room : (s : State) (q : Query) (now count : ℕ) (phase : Phase) → RepliesInRoom (enable_in s q now count phase)
 enable_room s q now zero phase = refl
 enable_room s q now (suc (suc n)) phase = refl
 enable_room s q now (suc zero) (Gathering given) = refl
 enable_room s q now (suc zero) Finished = refl
 
-poll_room : (s : State) (q : Query) (now : ℕ) (phase : Phase) → Answers (poll_in s q now phase)
+poll_room : (s : State) (q : Query) (now : ℕ) (phase : Phase) → RepliesInRoom (poll_in s q now phase)
 poll_room s q now (Gathering given) = refl
 poll_room s q now Finished =
-    by_cond Answers (nat_lt 0 q.disables) _ _ (λ _. refl)
-    (λ _. by_cond Answers (is_due q.spec.batch (items_of (pending s q)) (now - q.delivered)) _ _ (λ _. refl) (λ _. refl))
+    by_cond RepliesInRoom (nat_lt 0 q.disables) _ _ (λ _. refl)
+    (λ _. by_cond RepliesInRoom (is_due q.spec.batch (items_of (pending s q)) (now - q.delivered)) _ _ (λ _. refl) (λ _. refl))
 
 -- the reply finds room, and only the queries are others
 pub record Keeps (s : State) (o : StepResult) : Type 0 where
@@ -74,7 +74,7 @@ module _ (s : State) where
   all_same : (r : Reply) → HasRoom r → Keeps s (record { reply = r; state = s })
   all_same r room = record { limits = refl; table = refl; drawn = refl; tickets = refl; stamps = refl; room = room }
 
-  asked_keeps : (ask : Query → Answered) → ((q : Query) → Answers (ask q)) → (o : Option Query) → Keeps s (outcome_of s ask o)
+  asked_keeps : (ask : Query → Answered) → ((q : Query) → RepliesInRoom (ask q)) → (o : Option Query) → Keeps s (step_result s ask o)
   asked_keeps ask room None = all_same reply.NoQuery refl
   asked_keeps ask room (Some q) = same (ask q).reply _ (room q)
 

@@ -20,7 +20,7 @@ use Rattle.md_machine.specs.declared.Reply.{Reply}
 use Rattle.md_machine.specs.declared.Reply.TheVariants as reply
 use Rattle.md_machine.specs.Answers.{shown_answer}
 use Rattle.md_machine.specs.States.{Ticket, Stamp, Phase, Gathering, Finished, Query, State, opening, ticket_at, stamp_at, is_query, query_at, with_query, queries_of}
-use Rattle.md_machine.specs.Steps.{StepResult, Answered, step, draw, commit, commit_over, close, create, new_query, outcome_of, stop, gather, gather_in, next_part, most_hits, disable, enable, enable_in, poll, poll_in, pending, is_due}
+use Rattle.md_machine.specs.Steps.{StepResult, Answered, step, draw, commit, commit_over, close, create, new_query, step_result, stop, gather, gather_in, next_part, most_hits, disable, enable, enable_in, poll, poll_in, pending, is_due}
 use Rattle.md_machine.specs.Runs.{run_from, run, entries, is_of, received_more, received_by, received}
 use Rattle.md_machine.specs.Laws.{IsLive, received_to}
 use Rattle.md_machine.proofs.Lists.{by_cond}
@@ -206,10 +206,10 @@ module _ (received_so : Received) (s : State) (at : AreOfBase received_so s) whe
       let test : is_of w.client w.number e ≡ false = same_test ∙ b in
       rw test (at w (sym (at_set_other s.queries a.query w.client w.number b) ∙ live)))
 
-  outcome_after : (e : Event) (c n : ℕ) → ((d m : ℕ) → is_of d m e ≡ (c == d) && (n == m)) → (ask : Query → Answered) → ((q : Query) → Moves q (ask q))
-      → (o : Option Query) → query_at s.queries c n ≡ o → After e (outcome_of s ask o)
-  outcome_after e c n of ask moves None h = stays e reply.NoQuery tt
-  outcome_after e c n of ask moves (Some q) h = answered_after e c n of (ask q) q h (moves q)
+  result_after : (e : Event) (c n : ℕ) → ((d m : ℕ) → is_of d m e ≡ (c == d) && (n == m)) → (ask : Query → Answered) → ((q : Query) → Moves q (ask q))
+      → (o : Option Query) → query_at s.queries c n ≡ o → After e (step_result s ask o)
+  result_after e c n of ask moves None h = stays e reply.NoQuery tt
+  result_after e c n of ask moves (Some q) h = answered_after e c n of (ask q) q h (moves q)
 
   stop_after : (c n : ℕ) (o : Option Query) → After (event.Stop c n) (stop s c n o)
   stop_after c n None = stays (event.Stop c n) reply.NoQuery tt
@@ -220,10 +220,10 @@ module _ (received_so : Received) (s : State) (at : AreOfBase received_so s) whe
   step_after (event.Commit number change) = commit_after number change (ticket_at s.tickets number)
   step_after (event.Close number) = close_after number (ticket_at s.tickets number)
   step_after (event.Create c n spec) = create_after c n spec
-  step_after (event.Gather c n now) = outcome_after (event.Gather c n now) c n (λ _ _. refl) (λ q. gather q now) (λ q. gather_moves s q now q.phase) (query_at s.queries c n) refl
-  step_after (event.Disable c n) = outcome_after (event.Disable c n) c n (λ _ _. refl) (disable s.limits) (λ q. disable_moves s q) (query_at s.queries c n) refl
-  step_after (event.Enable c n now) = outcome_after (event.Enable c n now) c n (λ _ _. refl) (λ q. enable s q now) (λ q. enable_moves s q now q.disables q.phase) (query_at s.queries c n) refl
-  step_after (event.Poll c n now) = outcome_after (event.Poll c n now) c n (λ _ _. refl) (λ q. poll s q now) (λ q. poll_moves s q now q.phase) (query_at s.queries c n) refl
+  step_after (event.Gather c n now) = result_after (event.Gather c n now) c n (λ _ _. refl) (λ q. gather q now) (λ q. gather_moves s q now q.phase) (query_at s.queries c n) refl
+  step_after (event.Disable c n) = result_after (event.Disable c n) c n (λ _ _. refl) (disable s.limits) (λ q. disable_moves s q) (query_at s.queries c n) refl
+  step_after (event.Enable c n now) = result_after (event.Enable c n now) c n (λ _ _. refl) (λ q. enable s q now) (λ q. enable_moves s q now q.disables q.phase) (query_at s.queries c n) refl
+  step_after (event.Poll c n now) = result_after (event.Poll c n now) c n (λ _ _. refl) (λ q. poll s q now) (λ q. poll_moves s q now q.phase) (query_at s.queries c n) refl
   step_after (event.Stop c n) = stop_after c n (query_at s.queries c n)
   step_after (event.Vacuum c) = at
 
@@ -245,7 +245,7 @@ module _ (limits : Limits) (events : List Event) where
 
     -- what a query answers goes from the version that its client speaks of
     answers_from : (c n : ℕ) → (c == client) && (n == number) ≡ true → (ask : Query → Answered) → ((q : Query) → Moves q (ask q))
-        → (o : Option Query) → query_at (run limits events).last.queries c n ≡ o → GoesFrom now_spoken (outcome_of (run limits events).last ask o).reply
+        → (o : Option Query) → query_at (run limits events).last.queries c n ≡ o → GoesFrom now_spoken (step_result (run limits events).last ask o).reply
     answers_from c n of ask moves None h = tt
     answers_from c n of ask moves (Some q) h =
         let queries = (run limits events).last.queries in

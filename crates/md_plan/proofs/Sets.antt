@@ -19,7 +19,7 @@ use Rattle.md_index.specs.Indexed.{lists, row_between, Adds}
 use Rattle.md_index.proofs.Bools.{or_first, or_second, or_else, or_nothing}
 use Rattle.md_plan.specs.declared.plan.Plan.{Plan}
 use Rattle.md_plan.specs.Plans.{probe_set, plan_set}
-use Rattle.md_plan.specs.Found.{is_in, places_of, size_of, AreAll, IsFound}
+use Rattle.md_plan.specs.FoundPlaces.{is_in, places_of, size_of, AreAll, IsFound}
 
 none : false ≡ true → ⊥
 none e = cc

@@ -1,4 +1,4 @@
 pub mod Edges
 pub mod Plans
-pub mod Found
+pub mod FoundPlaces
 pub mod Hits

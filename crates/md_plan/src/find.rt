@@ -5,7 +5,7 @@ ghost use Rattle.md_world.specs.declared.Row.{Row as AnyRow};
 ghost use Rattle.md_match.specs.Candidates.{everything, smallest, union};
 ghost use Rattle.md_index.specs.Indexed.{Holds};
 ghost use Rattle.md_plan.specs.Plans.{probe_set, plan_set};
-ghost use Rattle.md_plan.specs.Found.{places_of, size_of, AreAll, IsFound};
+ghost use Rattle.md_plan.specs.FoundPlaces.{places_of, size_of, AreAll, IsFound};
 
 use crate::places::{at_most, fewer, join, joined};
 use crate::plan::Plan;

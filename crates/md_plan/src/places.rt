@@ -3,18 +3,18 @@ ghost use Rattle.std.specs.Prelude.{◌≡◌, ◌<◌, ◌||◌, ℕ, List, [],
 ghost use Rattle.std.specs.Option.{option_map};
 ghost use Rattle.std.specs.List.Sorted.{IsStrictlyIncreasing};
 ghost use Rattle.md_index.specs.Indexed.{lists, Adds};
-ghost use Rattle.md_plan.specs.Found.{IsFound};
+ghost use Rattle.md_plan.specs.FoundPlaces.{IsFound};
 
-use md_index::{Found, in_order};
+use md_index::{PlacesFound, in_order};
 use std::alloc::AllocError;
 
 /// The places, where they are all and at most so many.
-pub fn at_most(found: Found, most: usize) -> Option<Vec<u32>>
+pub fn at_most(found: PlacesFound, most: usize) -> Option<Vec<u32>>
     requires rising { IsStrictlyIncreasing found.places.items }
     requires over { found.whole ≡ false → most < length found.places.items }
     ensures { (all : List ℕ) (test : ℕ → Bool) → IsStrictlyIncreasing all → ((p : ℕ) → test p ≡ true → lists all p ≡ true) → Adds [] found.places.items found.whole test → IsFound most (filter test all) (option_map (λ v. v.items) result) }
 {
-    let Found { places, whole } = found;
+    let PlacesFound { places, whole } = found;
     if !whole {
         return None;
     }

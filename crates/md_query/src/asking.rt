@@ -33,7 +33,7 @@ pub enum Effect {
 }
 
 /// A reply with its effect.
-pub(crate) type Answer = (Reply, Effect);
+pub(crate) type QueryReply = (Reply, Effect);
 
 /// The greatest number of hits in the next part, after so many were given.
 pub(crate) fn most_hits(batch: &Batch, given: usize) -> Option<u32>

@@ -14,13 +14,13 @@ ghost use Rattle.md_store.specs.Stores.{is_shown};
 ghost use Rattle.md_query.specs.Asked.{newest_of, answered, settled};
 ghost use Rattle.md_query.specs.Reads.{most_reads};
 
-use crate::asking::{self, Answer, Ask, Effect};
+use crate::asking::{self, QueryReply, Ask, Effect};
 use crate::reading::read;
 use crate::tables;
 use md_machine::{Reply, Spec};
 use md_match::Filter;
 use md_store::Store;
-use md_value::Items;
+use md_value::PlainVec;
 use md_world::{Limits, Order, Row, Rows, Steps};
 use std::alloc::{AllocError, Global};
 use std::marker::Model;
@@ -150,10 +150,10 @@ impl Query {
         ensures reads { steps.new ≤ steps.old + length (table_at store.now.places self.now.base) }
     {
         let hits = self.hits(alloc, store, self.base, steps)?;
-        Ok(Items::from_vec(self.given(alloc, &hits)?))
+        Ok(PlainVec::from_vec(self.given(alloc, &hits)?))
     }
 
-    fn last_part(&self, alloc: Global, left: &[&Row], now_ms: u64) -> Result<Answer, AllocError>
+    fn last_part(&self, alloc: Global, left: &[&Row], now_ms: u64) -> Result<QueryReply, AllocError>
         ensures reply { IfOk result (λ a. a.0 ≡ Reply.Finished (record { hits = map shown (rows_of left.now); last = true }) self.now.base) }
         ensures query { (places : List Place) → IfOk result (λ a. nameless places (settled self.now a.1) ≡ (last_part (nameless places self.now) (map shown (rows_of left.now)) now_ms).query) }
     {
@@ -168,7 +168,7 @@ impl Query {
         given: usize,
         left: &[&Row],
         most: usize,
-    ) -> Result<Answer, AllocError>
+    ) -> Result<QueryReply, AllocError>
         requires enough { most ≤ length left.now }
         requires room { given + most < 2 ^ 64 }
         ensures reply { IfOk result (λ a. a.0 ≡ Reply.Progress (record { hits = take most (map shown (rows_of left.now)); last = false })) }
@@ -184,7 +184,7 @@ impl Query {
         given: usize,
         left: &[&Row],
         now_ms: u64,
-    ) -> Result<Answer, AllocError>
+    ) -> Result<QueryReply, AllocError>
         requires { 0 < length left.now → given + length left.now < 2 ^ 64 }
         ensures reply { (places : List Place) → IfOk result (λ a. a.0 ≡ (next_part (nameless places self.now) given (map shown (rows_of left.now)) (most_hits self.now.spec.batch given) now_ms).reply) }
         ensures query { (places : List Place) → IfOk result (λ a. nameless places (settled self.now a.1) ≡ (next_part (nameless places self.now) given (map shown (rows_of left.now)) (most_hits self.now.spec.batch given) now_ms).query) }
@@ -205,7 +205,7 @@ impl Query {
         now_ms: u64,
         store: &Store,
         steps: &mut Steps<L>,
-    ) -> Result<Answer, AllocError>
+    ) -> Result<QueryReply, AllocError>
         requires { is_shown store.now self.now.base ≡ true }
         ensures reply { IfOk result (λ a. a.0 ≡ (next_part (nameless store.now.places self.now) given (drop given (shown_answer self.now.spec (table_at store.now.places self.now.base))) (most_hits self.now.spec.batch given) now_ms).reply) }
         ensures query { IfOk result (λ a. nameless store.now.places (settled self.now a.1) ≡ (next_part (nameless store.now.places self.now) given (drop given (shown_answer self.now.spec (table_at store.now.places self.now.base))) (most_hits self.now.spec.batch given) now_ms).query) }
@@ -223,7 +223,7 @@ impl Query {
         now_ms: u64,
         store: &Store,
         steps: &mut Steps<L>,
-    ) -> Result<Answer, AllocError>
+    ) -> Result<QueryReply, AllocError>
         requires { is_shown store.now self.now.base ≡ true }
         ensures reply { IfOk result (λ a. a.0 ≡ (gather (nameless store.now.places self.now) now_ms).reply) }
         ensures query { IfOk result (λ a. nameless store.now.places (settled self.now a.1) ≡ (gather (nameless store.now.places self.now) now_ms).query) }
@@ -242,7 +242,7 @@ impl Query {
         }
     }
 
-    fn disable(&self, limits: &Limits) -> Answer
+    fn disable(&self, limits: &Limits) -> QueryReply
         ensures reply { (places : List Place) → result.0 ≡ (disable limits.now (nameless places self.now)).reply }
         ensures query { (places : List Place) → nameless places (settled self.now result.1) ≡ (disable limits.now (nameless places self.now)).query }
     {
@@ -279,7 +279,7 @@ impl Query {
         store: &Store,
         old: &[&Row],
         new: &[&Row],
-    ) -> Result<Answer, AllocError>
+    ) -> Result<QueryReply, AllocError>
         requires old { rows_of old.now ≡ answer self.now.spec (table_at store.now.places self.now.base) }
         requires new { rows_of new.now ≡ answer self.now.spec (table_at store.now.places store.now.version) }
         ensures reply { IfOk result (λ a. a.0 ≡ Reply.Notice (notice_of (diff self.now.spec (table_at store.now.places self.now.base) (table_at store.now.places store.now.version)) self.now.base store.now.version)) }
@@ -308,7 +308,7 @@ impl Query {
         limits: &Limits,
         store: &Store,
         steps: &mut Steps<L>,
-    ) -> Result<Answer, AllocError>
+    ) -> Result<QueryReply, AllocError>
         requires { is_shown store.now self.now.base ≡ true }
         ensures reply { IfOk result (λ a. a.0 ≡ (enable (newest_of limits.now store.now) (nameless store.now.places self.now) now_ms).reply) }
         ensures query { IfOk result (λ a. nameless store.now.places (settled self.now a.1) ≡ (enable (newest_of limits.now store.now) (nameless store.now.places self.now) now_ms).query) }
@@ -338,7 +338,7 @@ impl Query {
         limits: &Limits,
         store: &Store,
         steps: &mut Steps<L>,
-    ) -> Result<Answer, AllocError>
+    ) -> Result<QueryReply, AllocError>
         requires finished { self.now.phase ≡ Finished }
         requires not_held { self.now.disables ≡ 0 }
         requires shown { is_shown store.now self.now.base ≡ true }
@@ -367,7 +367,7 @@ impl Query {
         limits: &Limits,
         store: &Store,
         steps: &mut Steps<L>,
-    ) -> Result<Answer, AllocError>
+    ) -> Result<QueryReply, AllocError>
         requires shown { is_shown store.now self.now.base ≡ true }
         requires few { items_of (diff self.now.spec (table_at store.now.places self.now.base) (table_at store.now.places store.now.version)) ≤ store.now.version }
         ensures reply { IfOk result (λ a. a.0 ≡ (poll (newest_of limits.now store.now) (nameless store.now.places self.now) now_ms).reply) }
@@ -396,7 +396,7 @@ impl Query {
         limits: &Limits,
         store: &Store,
         steps: &mut Steps<L>,
-    ) -> Result<Answer, AllocError>
+    ) -> Result<QueryReply, AllocError>
         requires shown { is_shown store.now self.now.base ≡ true }
         requires few { items_of (diff self.now.spec (table_at store.now.places self.now.base) (table_at store.now.places store.now.version)) ≤ store.now.version }
         ensures reply { IfOk result (λ a. a.0 ≡ (answered (newest_of limits.now store.now) ask now_ms (nameless store.now.places self.now)).reply) }

@@ -8,7 +8,7 @@ ghost use Rattle.md_machine.specs.Answers.{notice_of};
 ghost use Rattle.md_query.specs.Rows.{rows_of};
 
 use md_match::Filter;
-use md_value::{Copied, Items, Path};
+use md_value::{Copied, PlainVec, Path};
 use md_world::{Notice, Part, Row};
 use std::alloc::{AllocError, Global};
 
@@ -104,9 +104,9 @@ pub fn notice(
     Ok(Notice {
         from,
         to,
-        added: Items::from_vec(added(alloc, old, new)?),
-        changed: Items::from_vec(changed(alloc, old, new)?),
-        removed: Items::from_vec(removed(alloc, old, new)?),
+        added: PlainVec::from_vec(added(alloc, old, new)?),
+        changed: PlainVec::from_vec(changed(alloc, old, new)?),
+        removed: PlainVec::from_vec(removed(alloc, old, new)?),
     })
 }
 
@@ -176,7 +176,7 @@ pub fn part(alloc: Global, hits: &[&Row], last: bool) -> Result<Part, AllocError
     ensures { IfOk result (λ part. part ≡ record { hits = map shown (rows_of hits.now); last = last }) }
 {
     Ok(Part {
-        hits: Items::from_vec(shown(alloc, hits)?),
+        hits: PlainVec::from_vec(shown(alloc, hits)?),
         last,
     })
 }

@@ -9,7 +9,7 @@ use Rattle.md_machine.specs.declared.Event.{Event}
 use Rattle.md_machine.specs.declared.Event.TheVariants as event
 use Rattle.md_machine.specs.Answers.{shown_answer}
 use Rattle.md_machine.specs.States.{Ticket, Stamp, Phase, Gathering, Finished, Query, State, ticket_at, stamp_at, query_at, queries_of}
-use Rattle.md_machine.specs.Steps.{StepResult, Answered, step, commit, commit_over, close, outcome_of, stop, gather, gather_in, next_part, most_hits, disable, enable, enable_in, poll, poll_in, pending, is_due}
+use Rattle.md_machine.specs.Steps.{StepResult, Answered, step, commit, commit_over, close, step_result, stop, gather, gather_in, next_part, most_hits, disable, enable, enable_in, poll, poll_in, pending, is_due}
 use Rattle.md_machine.proofs.Lists.{by_cond}
 use Rattle.md_render.specs.Texts.{answers_commit, answers_close, answers_draw, answers_query, has_text}
 
@@ -17,8 +17,8 @@ use Rattle.md_render.specs.Texts.{answers_commit, answers_close, answers_draw, a
 abbrev Replies : Answered → Type 0
 Replies a = answers_query a.reply ≡ true
 
-abbrev Answers : StepResult → Type 0
-Answers o = answers_query o.reply ≡ true
+abbrev RepliesToQuery : StepResult → Type 0
+RepliesToQuery o = answers_query o.reply ≡ true
 
 next_replies : (q : Query) (given now : ℕ) (left : List Row) (most : Option ℕ) → Replies (next_part q given left most now)
 next_replies q given now left None = refl
@@ -45,7 +45,7 @@ poll_replies s q now Finished =
     by_cond Replies (nat_lt 0 q.disables) _ _ (λ _. refl)
     (λ _. by_cond Replies (is_due q.spec.batch (items_of (pending s q)) (now - q.delivered)) _ _ (λ _. refl) (λ _. refl))
 
-asked_answers : (s : State) (ask : Query → Answered) → ((q : Query) → Replies (ask q)) → (o : Option Query) → Answers (outcome_of s ask o)
+asked_answers : (s : State) (ask : Query → Answered) → ((q : Query) → Replies (ask q)) → (o : Option Query) → RepliesToQuery (step_result s ask o)
 asked_answers s ask replies None = refl
 asked_answers s ask replies (Some q) = replies q
 
@@ -61,7 +61,7 @@ close_answers : (s : State) (o : Option Ticket) → answers_close (close s o).re
 close_answers s None = refl
 close_answers s (Some t) = refl
 
-stop_answers : (s : State) (c n : ℕ) (o : Option Query) → Answers (stop s c n o)
+stop_answers : (s : State) (c n : ℕ) (o : Option Query) → RepliesToQuery (stop s c n o)
 stop_answers s c n None = refl
 stop_answers s c n (Some q) = refl
 
@@ -71,8 +71,8 @@ step_has_text s (event.Draw path) = by_cond (λ (o : StepResult). answers_draw o
 step_has_text s (event.Commit number change) = commit_answers s change (ticket_at s.tickets number)
 step_has_text s (event.Close number) = close_answers s (ticket_at s.tickets number)
 step_has_text s (event.Create c n spec) =
-    by_cond Answers (is_some (query_at s.queries c n)) _ _ (λ _. refl)
-    (λ _. by_cond Answers (nat_lt (queries_of s.queries c) s.limits.queries) _ _ (λ _. refl) (λ _. refl))
+    by_cond RepliesToQuery (is_some (query_at s.queries c n)) _ _ (λ _. refl)
+    (λ _. by_cond RepliesToQuery (nat_lt (queries_of s.queries c) s.limits.queries) _ _ (λ _. refl) (λ _. refl))
 step_has_text s (event.Gather c n now) = asked_answers s (λ q. gather q now) (λ q. gather_replies q now q.phase) (query_at s.queries c n)
 step_has_text s (event.Disable c n) = asked_answers s (disable s.limits) (disable_replies s.limits) (query_at s.queries c n)
 step_has_text s (event.Enable c n now) = asked_answers s (λ q. enable s q now) (λ q. enable_replies s q now q.disables q.phase) (query_at s.queries c n)

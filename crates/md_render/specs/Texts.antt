@@ -5,7 +5,7 @@ use Rattle.std.specs.List.{flat_map}
 use Rattle.md_value.specs.Values.{PathBytes}
 use Rattle.md_world.specs.declared.Row.{Row}
 use Rattle.md_world.specs.declared.Notice.{Notice}
-use Rattle.md_print.specs.Paths.{escaped}
+use Rattle.md_file_text.specs.Paths.{escaped}
 use Rattle.md_notice.specs.Following.{Followed}
 use Rattle.md_machine.specs.declared.Event.{Event}
 use Rattle.md_machine.specs.declared.Event.TheVariants as event

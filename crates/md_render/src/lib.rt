@@ -3,7 +3,7 @@
 //!
 //! `entry_text` has a line for an event with its reply, and below it a line for each hit or each item of a notice;
 //! `held_text` has a line for what a client holds, and below it a line for each path. `attrs_text` and `fault_text` are
-//! those of md_print.
+//! those of md_file_text.
 //!
 //! The third entry of a journal, a commit of ticket 1 that makes version 1, is `3 committed 1 1`; a client 1 that holds
 //! `a.txt` by its query 2, on version 1, is `c1 q2 holds 1 1` and then `  a.txt`.
@@ -17,4 +17,4 @@ mod replies;
 
 pub use entries::{entry_text, push_entry};
 pub use held::held_text;
-pub use md_print::{attrs_text, escaped, fault_text};
+pub use md_file_text::{attrs_text, escaped, fault_text};

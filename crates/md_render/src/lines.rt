@@ -2,7 +2,7 @@
 ghost use Rattle.std.specs.Prelude.{◌≡◌, ◌++◌, OnOk, string_bytes};
 ghost use Rattle.md_render.specs.Texts.{number_line, pair_line, path_line, marked_line, path_lines, row_lines};
 
-use md_print::push_path;
+use md_file_text::push_path;
 use md_value::Path;
 use md_world::Row;
 use std::alloc::AllocError;

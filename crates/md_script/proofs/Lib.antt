@@ -4,7 +4,7 @@ pub mod Expressions
 pub mod FirstLine
 pub mod Naming
 pub mod Numerals
-pub mod Outcomes
+pub mod SoFar
 pub mod Reading
 pub mod Unescaping
 pub mod Verdicts

@@ -41,6 +41,6 @@ unfoldable pub content_of : List ℕ → Option (List ℕ)
 content_of rest = option_and_then (λ text. if is_utf8 text then Some text else None) (unescaped rest)
 
 -- The expression that a text is read as, where it is UTF-8 and its reading gives one. By the law `expressions_are_read` it is
--- `Some e` exactly where the text is UTF-8 and the relation `Answers` of md_expr holds of `Ok e` and the text.
+-- `Some e` exactly where the text is UTF-8 and the relation `IsVerdict` of md_expr holds of `Ok e` and the text.
 unfoldable pub expression_of : List ℕ → Option Expr
 expression_of text = if is_utf8 text then result_ok (reading_of text).answer else None

@@ -3,7 +3,7 @@ ghost use Rattle.std.specs.Prelude.{◌≡◌, ◌≢◌, ℕ, ◌<◌, ◌≤�
 ghost use Rattle.std.specs.Str.{is_utf8};
 ghost use Rattle.std.specs.Str.Lines.{lines};
 ghost use Rattle.md_expr_tree.specs.declared.tree.Expr.{Expr};
-ghost use Rattle.md_expr.specs.Answer.{Answers};
+ghost use Rattle.md_expr.specs.Verdict.{IsVerdict};
 ghost use Rattle.md_script.specs.Scripts.{verdict, first_bad, statements, IsShort};
 ghost use Rattle.md_script.specs.Limits.{most_bytes, most_lines};
 ghost use Rattle.md_script.specs.Words.{expression_of};
@@ -23,5 +23,5 @@ pub fn one_reading()
 /// The text after `where` gives an expression exactly where it is UTF-8 and reads as that expression by the grammar, within the
 /// limits.
 pub fn expressions_are_read()
-    ensures { (text : List ℕ) (expr : Expr) → (expression_of text ≡ Some expr) ↔ ((is_utf8 text ≡ true) × Answers (Ok expr) text) }
+    ensures { (text : List ℕ) (expr : Expr) → (expression_of text ≡ Some expr) ↔ ((is_utf8 text ≡ true) × IsVerdict (Ok expr) text) }
 {}

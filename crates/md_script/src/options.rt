@@ -8,7 +8,7 @@ ghost use Rattle.md_script.specs.declared.options.Choice.TheVariants.{In, By};
 
 use crate::lines::{first, split_once, split_word};
 use crate::words::{folder_of, number_of, text_of};
-use md_value::{Items, Name, NameError, Path};
+use md_value::{PlainVec, Name, NameError, Path};
 use md_words::set_once;
 use md_world::SortKey;
 use std::alloc::{AllocError, Global};
@@ -132,7 +132,7 @@ pub struct Options {
     pub progress: Option<u32>,
     pub update: Option<u32>,
     pub ms: Option<u64>,
-    pub keys: Items<SortKey>,
+    pub keys: PlainVec<SortKey>,
 }
 
 impl Options {
@@ -145,7 +145,7 @@ impl Options {
             progress: None,
             update: None,
             ms: None,
-            keys: Items::new(alloc),
+            keys: PlainVec::new(alloc),
         }
     }
 

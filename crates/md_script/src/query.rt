@@ -8,7 +8,7 @@ use crate::options::{Options, options_of};
 use crate::words::{expression_of, number_of};
 use md_expr::Expr;
 use md_machine::Batch;
-use md_value::{Items, Path};
+use md_value::{PlainVec, Path};
 use md_world::{NotShown, Order, SortKey};
 use std::alloc::{AllocError, Global};
 
@@ -21,7 +21,7 @@ fn scope_or_root(alloc: Global, scope: Option<Path>) -> Path
     }
 }
 
-fn order_of(keys: Items<SortKey>) -> Option<Order>
+fn order_of(keys: PlainVec<SortKey>) -> Option<Order>
     ensures { result ≡ order_of keys }
 {
     match Order::of(keys.into_vec()) {

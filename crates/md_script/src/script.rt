@@ -4,7 +4,7 @@ ghost use Rattle.md_script.specs.declared.script.ScriptError.TheVariants.{Memory
 
 use md_expr::Expr;
 use md_machine::Batch;
-use md_value::{Items, Path};
+use md_value::{PlainVec, Path};
 use md_words::Utf8;
 use md_world::Order;
 use std::alloc::{AllocError, AllocFailed};
@@ -87,7 +87,7 @@ pub struct Line {
 /// The lines of a script that say something. Contracts see it as their list.
 #[derive(Drop)]
 pub struct Script {
-    lines: Items<Line>,
+    lines: PlainVec<Line>,
 }
 
 impl Model for Script {
@@ -109,7 +109,7 @@ impl Script {
         ensures { result ≡ lines.items }
     {
         Script {
-            lines: Items::from_vec(lines),
+            lines: PlainVec::from_vec(lines),
         }
     }
 

@@ -142,7 +142,7 @@ pub fn content_of(alloc: Global, rest: &[u8]) -> Result<Option<Utf8>, AllocError
 }
 
 /// The expression that a text is.
-#[tactic(auto, unfolding(crate::specs::Words::expression_of, crate::specs::Readings::reading_of), using(md_expr::proofs::Outcomes::outcome_read, md_expr::proofs::Outcomes::outcome_refused))]
+#[tactic(auto, unfolding(crate::specs::Words::expression_of, crate::specs::Readings::reading_of), using(md_expr::proofs::Verdicts::verdict_read, md_expr::proofs::Verdicts::verdict_refused))]
 pub fn expression_of(alloc: Global, text: &[u8]) -> Result<Option<Expr>, AllocError>
     ensures { IfOk result (λ expr. expr ≡ expression_of text.now) }
 {

@@ -10,8 +10,8 @@ abbrev pub reader_of : {R : Type 0} → Reading R → R
 reader_of r = r.inner
 
 -- how often the reader has failed
-abbrev pub reader_faults : {R : Type 0} → Reading R → ℕ
-reader_faults r = r.faults
+abbrev pub reader_failures : {R : Type 0} → Reading R → ℕ
+reader_failures r = r.failures
 
 -- the writer that the bytes go to
 abbrev pub writer_of : {W : Type 0} → Writing W → W
@@ -22,13 +22,13 @@ abbrev pub writer_spare : {W : Type 0} → Writing W → ℕ
 writer_spare w = w.spare
 
 -- how often the writer has failed
-abbrev pub writer_faults : {W : Type 0} → Writing W → ℕ
-writer_faults w = w.faults
+abbrev pub writer_failures : {W : Type 0} → Writing W → ℕ
+writer_failures w = w.failures
 
 -- how often the folder has failed
-abbrev pub folder_faults : {R : Type 0} → Folder R → ℕ
-folder_faults f = f.faults
+abbrev pub folder_failures : {R : Type 0} → Folder R → ℕ
+folder_failures f = f.failures
 
 -- how often the clock has failed
-abbrev pub clock_faults : {R : Type 0} → MachineClock R → ℕ
-clock_faults c = c.faults
+abbrev pub clock_failures : {R : Type 0} → MachineClock R → ℕ
+clock_failures c = c.failures

@@ -1,24 +1,24 @@
 -- What contracts see of the outside in memory.
 use Rattle.std.specs.Prelude.{◌≡◌, ◌↔◌, ℕ, ◌+◌, ◌-◌, ◌^◌, ◌≤◌, min, ℤ, List, Contains, Result, IsErr, OnErr, OnOk}
 
--- the numbers of the calls that fail, and how many calls and faults there were; both counts stop at 2 ^ 64 - 1
+-- the numbers of the calls that fail, and how many calls and failures there were; both counts stop at 2 ^ 64 - 1
 pub record Plan : Type 0 where
   pub fails : List ℕ
   pub calls : ℕ
-  pub faults : ℕ
+  pub failures : ℕ
 
 -- no call yet
 abbrev pub new_plan : List ℕ → Plan
-new_plan fails = record { fails = fails; calls = 0; faults = 0 }
+new_plan fails = record { fails = fails; calls = 0; failures = 0 }
 
--- one call more, which fails exactly where its number is listed, and is then counted as a fault
+-- one call more, which fails exactly where its number is listed, and is then counted as a failure
 pub record FollowsPlan {T E : Type 0} (old new : Plan) (result : Result T E) : Type 0 where
   pub listed : IsErr result ↔ Contains old.fails old.calls
   pub fails : new.fails ≡ old.fails
   pub calls : new.calls ≡ min (old.calls + 1) (2 ^ 64 - 1)
-  pub later : old.faults ≤ new.faults
-  pub fault : OnErr result (new.faults ≡ min (old.faults + 1) (2 ^ 64 - 1))
-  pub kept : OnOk result (new.faults ≡ old.faults)
+  pub later : old.failures ≤ new.failures
+  pub failure : OnErr result (new.failures ≡ min (old.failures + 1) (2 ^ 64 - 1))
+  pub kept : OnOk result (new.failures ≡ old.failures)
 
 -- one call more
 pub record IsNextPlan (old new : Plan) : Type 0 where

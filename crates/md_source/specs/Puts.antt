@@ -1,4 +1,4 @@
--- What a sink has taken after bytes were put to it, and its count of faults.
+-- What a sink has taken after bytes were put to it, and its count of failures.
 use Rattle.std.specs.Prelude.{◌≡◌, ℕ, ◌<◌, ◌≤◌, List, length, take, Option}
 use Rattle.std.specs.Io.KnownBytes.{Appends}
 use Rattle.md_source.specs.Causes.{Rose}

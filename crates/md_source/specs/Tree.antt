@@ -53,7 +53,7 @@ entry_at files path = option_map (λ file. file.0) (file_at files path)
 abbrev pub bytes_at : List File → PathBytes → ℕ → Option (List ℕ)
 bytes_at files path most = option_map (λ file. take most file.1) (file_at files path)
 
--- the count of faults rises where the call answers that it failed, and stands where it does not
+-- the count of failures rises where the call answers that it failed, and stands where it does not
 abbrev pub ListHasCause : {T : Type 0} → ℕ → ℕ → Result T ListEnd → Type 0
 ListHasCause before now (Ok entries) = now ≡ before
 ListHasCause before now (Err list.Absent) = now ≡ before

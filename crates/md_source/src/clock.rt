@@ -5,7 +5,7 @@ ghost use Rattle.md_source.specs.Causes.{HasCause};
 ghost use Rattle.md_source.specs.Memory.{FollowsPlan, new_plan};
 
 use crate::Failed;
-use crate::fault::Plan;
+use crate::failure::Plan;
 use std::marker::Model;
 
 /// A clock.
@@ -14,14 +14,14 @@ pub trait Clock {
     ghost moment: { Self → Option ℤ };
 
     /// How often the clock has failed.
-    ghost faults: { Self → ℕ };
+    ghost failures: { Self → ℕ };
 
     /// The moment now, in seconds since 1970 in UTC.
     fn now(&mut self) -> Result<i64, Failed>
         ensures range { IfOk result IsMoment }
         ensures known { IfOk result (λ now. IfSome (moment self.old) (λ known. now ≡ known)) }
         ensures moment { moment self.new ≡ moment self.old }
-        ensures cause { HasCause (faults self.old) (faults self.new) result };
+        ensures cause { HasCause (failures self.old) (failures self.new) result };
 }
 
 /// A clock in memory that shows one moment and never fails.
@@ -54,7 +54,7 @@ impl SureClock {
 impl Clock for SureClock {
     ghost moment = { λ c. Some c };
 
-    ghost faults = { λ c. 0 };
+    ghost failures = { λ c. 0 };
 
     fn now(&mut self) -> Result<i64, Failed>
         ensures range { IfOk result IsMoment }
@@ -96,7 +96,7 @@ impl MemoryClock {
 impl Clock for MemoryClock {
     ghost moment = { λ c. Some c.moment };
 
-    ghost faults = { λ c. c.plan.faults };
+    ghost failures = { λ c. c.plan.failures };
 
     fn now(&mut self) -> Result<i64, Failed>
         ensures range { IfOk result IsMoment }

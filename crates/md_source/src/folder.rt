@@ -1,10 +1,10 @@
 // The tree of the files below a real folder.
 ghost use Rattle.std.specs.Prelude.{◌≡◌, ◌≤◌, ◌≢◌, IfOk, vec_len, None};
 ghost use Rattle.md_value.specs.Values.{IsMoment};
-ghost use Rattle.md_source.specs.Adapters.{folder_faults};
+ghost use Rattle.md_source.specs.Adapters.{folder_failures};
 ghost use Rattle.md_source.specs.Causes.{Rose};
 
-use crate::fault::count_fault;
+use crate::failure::count_failure;
 use crate::listing::is_listing;
 use crate::{Entry, ListEnd, ReadEnd, Reading, SourceEnd, Tree, read_all};
 use md_value::{Copied, HIGH, LOW, Path, PathError};
@@ -21,29 +21,29 @@ use std::os::unix::fs::MetadataExt;
 #[derive(Drop)]
 pub struct Folder<R> {
     rt: R,
-    faults: u64,
+    failures: u64,
 }
 
 impl<R: Files + AllocGlobal + Clone + Drop> Folder<R> {
-    /// The folder that the process works in, with no fault yet.
+    /// The folder that the process works in, with no failure yet.
     pub fn new(rt: R) -> Folder<R>
-        ensures { folder_faults result ≡ 0 }
+        ensures { folder_failures result ≡ 0 }
     {
-        Folder { rt, faults: 0 }
+        Folder { rt, failures: 0 }
     }
 }
 
-// Why a call ended, and a fault more where the system failed.
-fn end_of(error: &io::Error, faults: &mut u64) -> ReadEnd
-    ensures later { faults.old ≤ faults.new }
-    ensures failed { result ≡ ReadEnd.Failed → Rose faults.old faults.new }
-    ensures kept { result ≢ ReadEnd.Failed → faults.new ≡ faults.old }
+// Why a call ended, and a failure more where the system failed.
+fn end_of(error: &io::Error, failures: &mut u64) -> ReadEnd
+    ensures later { failures.old ≤ failures.new }
+    ensures failed { result ≡ ReadEnd.Failed → Rose failures.old failures.new }
+    ensures kept { result ≢ ReadEnd.Failed → failures.new ≡ failures.old }
 {
     match error.kind() {
         ErrorKind::NotFound | ErrorKind::NotADirectory => ReadEnd::Absent,
         ErrorKind::OutOfMemory => ReadEnd::Memory,
         _ => {
-            count_fault(faults);
+            count_failure(failures);
             ReadEnd::Failed
         }
     }
@@ -218,7 +218,7 @@ impl<R: Files + AllocGlobal + Clone + Drop> Folder<R> {
 impl<R: Files + AllocGlobal + Clone + Drop> Tree for Folder<R> {
     ghost content = { λ f. None };
 
-    ghost faults = { folder_faults };
+    ghost failures = { folder_failures };
 
     fn list(&mut self, alloc: Global, folder: &Path) -> Result<Vec<Entry>, ListEnd> {
         match self.listing(alloc, folder) {
@@ -226,11 +226,11 @@ impl<R: Files + AllocGlobal + Clone + Drop> Tree for Folder<R> {
                 if is_listing(folder, &entries) {
                     Ok(entries)
                 } else {
-                    count_fault(&mut self.faults);
+                    count_failure(&mut self.failures);
                     Err(ListEnd::Failed)
                 }
             }
-            Err(error) => match end_of(&error, &mut self.faults) {
+            Err(error) => match end_of(&error, &mut self.failures) {
                 ReadEnd::Absent => Err(ListEnd::Absent),
                 ReadEnd::Failed => Err(ListEnd::Failed),
                 ReadEnd::Memory => Err(ListEnd::Memory),
@@ -244,7 +244,7 @@ impl<R: Files + AllocGlobal + Clone + Drop> Tree for Folder<R> {
                 Ok(path) => Ok(entry_of(path, &metadata)),
                 Err(_) => Err(ReadEnd::Memory),
             },
-            Err(error) => Err(end_of(&error, &mut self.faults)),
+            Err(error) => Err(end_of(&error, &mut self.failures)),
         }
     }
 
@@ -254,11 +254,11 @@ impl<R: Files + AllocGlobal + Clone + Drop> Tree for Folder<R> {
                 Ok(bytes) => Ok(bytes),
                 Err(SourceEnd::Memory) => Err(ReadEnd::Memory),
                 Err(SourceEnd::Failed) => {
-                    count_fault(&mut self.faults);
+                    count_failure(&mut self.failures);
                     Err(ReadEnd::Failed)
                 }
             },
-            Err(error) => Err(end_of(&error, &mut self.faults)),
+            Err(error) => Err(end_of(&error, &mut self.failures)),
         }
     }
 }

@@ -1,10 +1,10 @@
 //! The outside of the server: what it reads and writes, as traits with a content, where an object tells it,
-//! and a count of faults that never falls. A call that answers [`Failed`] raises the count, and no other does.
+//! and a count of failures that never falls. A call that answers [`Failed`] raises the count, and no other does.
 #![tactic(auto)]
 
 mod adapters;
 mod clock;
-mod fault;
+mod failure;
 mod folder;
 mod gate;
 mod listing;
@@ -20,7 +20,7 @@ mod tree;
 
 pub use adapters::{Reading, Writing};
 pub use clock::{Clock, MemoryClock, SureClock};
-pub use fault::Failed;
+pub use failure::Failed;
 pub use folder::Folder;
 pub use gate::{Gate, OpenGate, Point};
 pub use listing::is_content;

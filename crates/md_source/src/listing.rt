@@ -5,7 +5,7 @@ ghost use Rattle.md_source.specs.Tree.{IsListing, IsContent, entries_of, has_fol
 ghost use Rattle.md_source.specs.Listing.{is_file, is_below, is_ascending, are_ordered, is_ordered};
 
 use crate::Entry;
-use md_value::{HIGH, Items, LOW, Path};
+use md_value::{HIGH, PlainVec, LOW, Path};
 use std::alloc::Global;
 
 fn is_file(entry: &Entry) -> bool
@@ -51,7 +51,7 @@ pub(crate) fn is_listing(folder: &Path, entries: &[Entry]) -> bool
     are_below(folder, entries) && are_ascending(entries)
 }
 
-fn are_files(files: &[(Entry, Items<u8>)]) -> bool
+fn are_files(files: &[(Entry, PlainVec<u8>)]) -> bool
     ensures { result ≡ list_all is_file (entries_of files.now) }
 {
     for (entry, _) in files {
@@ -62,7 +62,7 @@ fn are_files(files: &[(Entry, Items<u8>)]) -> bool
     true
 }
 
-fn are_ascending_files(files: &[(Entry, Items<u8>)]) -> bool
+fn are_ascending_files(files: &[(Entry, PlainVec<u8>)]) -> bool
     ensures { result ≡ is_ascending (entries_of files.now) }
 {
     let mut rest = files;
@@ -76,7 +76,7 @@ fn are_ascending_files(files: &[(Entry, Items<u8>)]) -> bool
 }
 
 #[tactic(auto, unfolding(crate::specs::Listing::are_ordered))]
-fn have_distinct_paths(files: &[(Entry, Items<u8>)]) -> bool
+fn have_distinct_paths(files: &[(Entry, PlainVec<u8>)]) -> bool
     ensures exact { result ≡ are_ordered (entries_of files.now) }
     ensures listing { IsTrue result → IsListing [] (entries_of files.now) }
 {
@@ -92,7 +92,7 @@ fn has_root(alloc: Global, folders: &[Path]) -> bool
 /// Whether a tree may hold these folders and files: the root is among the folders, and the files ascend by
 /// path, are not the root and were changed at moments. It takes no memory.
 #[tactic(auto, unfolding(crate::specs::Listing::is_ordered))]
-pub fn is_content(alloc: Global, folders: &[Path], files: &[(Entry, Items<u8>)]) -> bool
+pub fn is_content(alloc: Global, folders: &[Path], files: &[(Entry, PlainVec<u8>)]) -> bool
     ensures exact { result ≡ is_ordered (record { folders = folders.now; files = files.now }) }
     ensures content { IsTrue result → IsContent (record { folders = folders.now; files = files.now }) }
 {

@@ -1,8 +1,8 @@
 // The machine's clock.
 ghost use Rattle.std.specs.Prelude.{◌≡◌, None};
-ghost use Rattle.md_source.specs.Adapters.{clock_faults};
+ghost use Rattle.md_source.specs.Adapters.{clock_failures};
 
-use crate::fault::count_fault;
+use crate::failure::count_failure;
 use crate::{Clock, Failed};
 use md_value::{HIGH, LOW};
 use std::io::ErrorKind;
@@ -13,15 +13,15 @@ use std::time::{self, SystemTime, UNIX_EPOCH};
 #[derive(Drop)]
 pub struct MachineClock<R> {
     rt: R,
-    faults: u64,
+    failures: u64,
 }
 
 impl<R: time::Clock> MachineClock<R> {
-    /// The clock, with no fault yet.
+    /// The clock, with no failure yet.
     pub fn new(rt: R) -> MachineClock<R>
-        ensures { clock_faults result ≡ 0 }
+        ensures { clock_failures result ≡ 0 }
     {
-        MachineClock { rt, faults: 0 }
+        MachineClock { rt, failures: 0 }
     }
 }
 
@@ -40,12 +40,12 @@ fn seconds<R: time::Clock>(rt: &R) -> Result<u64, Failed> {
 impl<R: time::Clock> Clock for MachineClock<R> {
     ghost moment = { λ c. None };
 
-    ghost faults = { clock_faults };
+    ghost failures = { clock_failures };
 
     fn now(&mut self) -> Result<i64, Failed> {
         match seconds(&self.rt) {
             Ok(seconds) => Ok(i64::try_from(seconds).unwrap_or(HIGH).clamp(LOW, HIGH)),
-            Err(_) => Err(count_fault(&mut self.faults)),
+            Err(_) => Err(count_failure(&mut self.failures)),
         }
     }
 }

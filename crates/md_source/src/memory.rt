@@ -5,7 +5,7 @@ ghost use Rattle.std.specs.Io.KnownBytes.{ReadConsumes, WriteAppends};
 ghost use Rattle.md_source.specs.Causes.{HasCause};
 ghost use Rattle.md_source.specs.Memory.{FollowsPlan, new_plan};
 
-use crate::fault::Plan;
+use crate::failure::Plan;
 use crate::{Failed, Sink, Source, SureSink, SureSource};
 use std::alloc::{AllocError, Global};
 use std::marker::Model;
@@ -42,12 +42,12 @@ impl MemorySource {
 impl Source for MemorySource {
     ghost left = { λ s. Some s.feed.left };
 
-    ghost faults = { λ s. s.plan.faults };
+    ghost failures = { λ s. s.plan.failures };
 
     fn next(&mut self, into: &mut [u8]) -> Result<usize, Failed>
         ensures bound { ReadsAtMost result into.new }
         ensures bytes { ReadConsumes (Some self.old.feed.left) (Some self.new.feed.left) result into.new }
-        ensures cause { HasCause self.old.plan.faults self.new.plan.faults result }
+        ensures cause { HasCause self.old.plan.failures self.new.plan.failures result }
         ensures plan { FollowsPlan self.old.plan self.new.plan result }
         ensures count { IfOk result (λ count. count ≡ min (length into.old) (min self.old.feed.piece (length self.old.feed.left))) }
         ensures piece { self.new.feed.piece ≡ self.old.feed.piece }
@@ -98,7 +98,7 @@ impl Sink for MemorySink {
 
     ghost spare = { λ s. s.drain.spare };
 
-    ghost faults = { λ s. s.plan.faults };
+    ghost failures = { λ s. s.plan.failures };
 
     fn reserve(&mut self, more: usize) -> Result<(), AllocError>
         ensures room { OnOk result (more ≤ self.new.drain.spare) }
@@ -115,7 +115,7 @@ impl Sink for MemorySink {
         ensures some { IfOk result (λ count. 0 < length piece.now → 0 < count) }
         ensures bytes { WriteAppends (Some self.old.drain.taken) (Some self.new.drain.taken) result piece.now }
         ensures room { MatchResult result (λ count. self.new.drain.spare + count ≡ self.old.drain.spare) (λ _. self.new.drain.spare ≡ self.old.drain.spare) }
-        ensures cause { HasCause self.old.plan.faults self.new.plan.faults result }
+        ensures cause { HasCause self.old.plan.failures self.new.plan.failures result }
         ensures plan { FollowsPlan self.old.plan self.new.plan result }
         ensures count { IfOk result (λ count. count ≡ min (length piece.now) self.old.drain.piece) }
         ensures piece { self.new.drain.piece ≡ self.old.drain.piece }

@@ -4,9 +4,9 @@ ghost use Rattle.md_value.specs.Values.{IsMoment};
 ghost use Rattle.md_source.specs.Memory.{IsNextPlan, new_plan};
 ghost use Rattle.md_source.specs.Tree.{IsContent, IsListing, has_folder, entries_below, file_at, entry_at, bytes_at, ListHasCause, ReadHasCause};
 
-use crate::fault::Plan;
+use crate::failure::Plan;
 use crate::{Entry, ListEnd, ReadEnd, SureTree, Tree};
-use md_value::{Items, Path};
+use md_value::{PlainVec, Path};
 use std::alloc::Global;
 use std::marker::Model;
 
@@ -28,7 +28,7 @@ impl Model for MemoryTree {
 impl MemoryTree {
     /// A tree of these folders, the root among them, and of these files, which have distinct paths. Its calls
     /// of these numbers fail.
-    pub fn new(folders: Vec<Path>, files: Vec<(Entry, Items<u8>)>, fails: Vec<u64>) -> MemoryTree
+    pub fn new(folders: Vec<Path>, files: Vec<(Entry, PlainVec<u8>)>, fails: Vec<u64>) -> MemoryTree
         requires { IsContent (record { folders = folders.items; files = files.items }) }
         ensures { result ≡ record { content = record { folders = folders.items; files = files.items }; plan = new_plan fails.items } }
     {
@@ -42,7 +42,7 @@ impl MemoryTree {
 impl Tree for MemoryTree {
     ghost content = { λ t. Some t.content };
 
-    ghost faults = { λ t. t.plan.faults };
+    ghost failures = { λ t. t.plan.failures };
 
     fn list(&mut self, alloc: Global, folder: &Path) -> Result<Vec<Entry>, ListEnd>
         ensures listing { IfOk result (λ entries. IsListing folder.now entries.items) }
@@ -52,8 +52,8 @@ impl Tree for MemoryTree {
         ensures content { self.new.content ≡ self.old.content }
 
         ensures listed { IsErrOf result ListEnd.Failed ↔ Contains self.old.plan.fails self.old.plan.calls }
-        ensures fault { IsErrOf result ListEnd.Failed → self.new.plan.faults ≡ min (self.old.plan.faults + 1) (2 ^ 64 - 1) }
-        ensures cause { ListHasCause self.old.plan.faults self.new.plan.faults result }
+        ensures failure { IsErrOf result ListEnd.Failed → self.new.plan.failures ≡ min (self.old.plan.failures + 1) (2 ^ 64 - 1) }
+        ensures cause { ListHasCause self.old.plan.failures self.new.plan.failures result }
         ensures plan { IsNextPlan self.old.plan self.new.plan }
     {
         if self.plan.call().is_err() {
@@ -70,8 +70,8 @@ impl Tree for MemoryTree {
         ensures content { self.new.content ≡ self.old.content }
 
         ensures listed { IsErrOf result ReadEnd.Failed ↔ Contains self.old.plan.fails self.old.plan.calls }
-        ensures fault { IsErrOf result ReadEnd.Failed → self.new.plan.faults ≡ min (self.old.plan.faults + 1) (2 ^ 64 - 1) }
-        ensures cause { ReadHasCause self.old.plan.faults self.new.plan.faults result }
+        ensures failure { IsErrOf result ReadEnd.Failed → self.new.plan.failures ≡ min (self.old.plan.failures + 1) (2 ^ 64 - 1) }
+        ensures cause { ReadHasCause self.old.plan.failures self.new.plan.failures result }
         ensures plan { IsNextPlan self.old.plan self.new.plan }
     {
         if self.plan.call().is_err() {
@@ -87,8 +87,8 @@ impl Tree for MemoryTree {
         ensures content { self.new.content ≡ self.old.content }
 
         ensures listed { IsErrOf result ReadEnd.Failed ↔ Contains self.old.plan.fails self.old.plan.calls }
-        ensures fault { IsErrOf result ReadEnd.Failed → self.new.plan.faults ≡ min (self.old.plan.faults + 1) (2 ^ 64 - 1) }
-        ensures cause { ReadHasCause self.old.plan.faults self.new.plan.faults result }
+        ensures failure { IsErrOf result ReadEnd.Failed → self.new.plan.failures ≡ min (self.old.plan.failures + 1) (2 ^ 64 - 1) }
+        ensures cause { ReadHasCause self.old.plan.failures self.new.plan.failures result }
         ensures plan { IsNextPlan self.old.plan self.new.plan }
     {
         if self.plan.call().is_err() {

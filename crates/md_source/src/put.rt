@@ -8,10 +8,10 @@ use crate::{Failed, Sink};
 pub fn put_all<K: Sink>(sink: &mut K, bytes: &[u8]) -> Result<(), Failed>
     requires { length bytes.now ≤ K.spare sink.old }
     ensures whole { OnOk result (PutsWhole (K.taken sink.old) (K.taken sink.new)
-        (K.faults sink.old) (K.faults sink.new) bytes.now) }
+        (K.failures sink.old) (K.failures sink.new) bytes.now) }
     ensures room { OnOk result (K.spare sink.new + length bytes.now ≡ K.spare sink.old) }
     ensures part { OnErr result (PutsPart (K.taken sink.old) (K.taken sink.new)
-        (K.faults sink.old) (K.faults sink.new) bytes.now) }
+        (K.failures sink.old) (K.failures sink.new) bytes.now) }
 {
     let mut at = 0;
     while at < bytes.len() {
@@ -41,21 +41,21 @@ pub fn put_texts<E: Sink, K: Sink>(
     out_text: &str,
 ) -> Result<(), PutEnd>
     ensures whole_err { OnOk result (PutsWhole (E.taken err.old) (E.taken err.new)
-        (E.faults err.old) (E.faults err.new) err_text.now) }
+        (E.failures err.old) (E.failures err.new) err_text.now) }
     ensures whole_out { OnOk result (PutsWhole (K.taken out.old) (K.taken out.new)
-        (K.faults out.old) (K.faults out.new) out_text.now) }
+        (K.failures out.old) (K.failures out.new) out_text.now) }
 
     // A prefix of the text for err stands and nothing of the other, or all of it and a prefix of the other.
     ensures part { IsErrOf result PutEnd.Failed
-        → (PutsPart (E.taken err.old) (E.taken err.new) (E.faults err.old) (E.faults err.new) err_text.now
-        × PutsNothing (K.taken out.old) (K.taken out.new) (K.faults out.old) (K.faults out.new))
-        ⊎ (PutsWhole (E.taken err.old) (E.taken err.new) (E.faults err.old) (E.faults err.new) err_text.now
-        × PutsPart (K.taken out.old) (K.taken out.new) (K.faults out.old) (K.faults out.new) out_text.now) }
+        → (PutsPart (E.taken err.old) (E.taken err.new) (E.failures err.old) (E.failures err.new) err_text.now
+        × PutsNothing (K.taken out.old) (K.taken out.new) (K.failures out.old) (K.failures out.new))
+        ⊎ (PutsWhole (E.taken err.old) (E.taken err.new) (E.failures err.old) (E.failures err.new) err_text.now
+        × PutsPart (K.taken out.old) (K.taken out.new) (K.failures out.old) (K.failures out.new) out_text.now) }
 
     ensures memory_err { IsErrOf result PutEnd.Memory → PutsNothing (E.taken err.old) (E.taken err.new)
-        (E.faults err.old) (E.faults err.new) }
+        (E.failures err.old) (E.failures err.new) }
     ensures memory_out { IsErrOf result PutEnd.Memory → PutsNothing (K.taken out.old) (K.taken out.new)
-        (K.faults out.old) (K.faults out.new) }
+        (K.failures out.old) (K.failures out.new) }
 {
     let err_bytes = err_text.as_bytes();
     let out_bytes = out_text.as_bytes();

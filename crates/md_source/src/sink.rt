@@ -16,13 +16,13 @@ pub trait Sink {
     ghost spare: { Self → ℕ };
 
     /// How often the sink has failed.
-    ghost faults: { Self → ℕ };
+    ghost failures: { Self → ℕ };
 
     /// Makes room for that many bytes.
     fn reserve(&mut self, more: usize) -> Result<(), AllocError>
         ensures room { OnOk result (more ≤ spare self.new) }
         ensures taken { taken self.new ≡ taken self.old }
-        ensures faults { faults self.new ≡ faults self.old };
+        ensures failures { failures self.new ≡ failures self.old };
 
     /// Takes the first bytes of the piece, and says how many: some, where the piece is not empty.
     fn put(&mut self, piece: &[u8]) -> Result<usize, Failed>
@@ -31,5 +31,5 @@ pub trait Sink {
         ensures some { IfOk result (λ count. 0 < length piece.now → 0 < count) }
         ensures bytes { WriteAppends (taken self.old) (taken self.new) result piece.now }
         ensures room { MatchResult result (λ count. spare self.new + count ≡ spare self.old) (λ _. spare self.new ≡ spare self.old) }
-        ensures cause { HasCause (faults self.old) (faults self.new) result };
+        ensures cause { HasCause (failures self.old) (failures self.new) result };
 }

@@ -13,13 +13,13 @@ pub trait Source {
     ghost left: { Self → Option (List ℕ) };
 
     /// How often the source has failed.
-    ghost faults: { Self → ℕ };
+    ghost failures: { Self → ℕ };
 
     /// Moves the next bytes into the slice, and says how many. None of a slice that is not empty is the end.
     fn next(&mut self, into: &mut [u8]) -> Result<usize, Failed>
         ensures bound { ReadsAtMost result into.new }
         ensures bytes { ReadConsumes (left self.old) (left self.new) result into.new }
-        ensures cause { HasCause (faults self.old) (faults self.new) result };
+        ensures cause { HasCause (failures self.old) (failures self.new) result };
 }
 
 /// Why a source was not read.
@@ -43,10 +43,10 @@ pub fn read_all<S: Source>(alloc: Global, source: &mut S, most: usize) -> Result
     ensures end { IfOk result (λ bytes. vec_len bytes ≤ most → IsAtEnd (S.left source.new)) }
     ensures bytes { IfOk result (λ bytes. IfSome (S.left source.old) (λ left. bytes.items ≡ take (most + 1) left)) }
 
-    ensures later { S.faults source.old ≤ S.faults source.new }
-    ensures failed { IsErrOf result SourceEnd.Failed → Rose (S.faults source.old) (S.faults source.new) }
-    ensures memory { IsErrOf result SourceEnd.Memory → S.faults source.new ≡ S.faults source.old }
-    ensures kept { OnOk result (S.faults source.new ≡ S.faults source.old) }
+    ensures later { S.failures source.old ≤ S.failures source.new }
+    ensures failed { IsErrOf result SourceEnd.Failed → Rose (S.failures source.old) (S.failures source.new) }
+    ensures memory { IsErrOf result SourceEnd.Memory → S.failures source.new ≡ S.failures source.old }
+    ensures kept { OnOk result (S.failures source.new ≡ S.failures source.old) }
 {
     let mut bytes = Vec::new(alloc);
     let mut chunk = [0u8; CHUNK];

@@ -44,7 +44,7 @@ impl SureSource {
 impl Source for SureSource {
     ghost left = { λ s. Some s.left };
 
-    ghost faults = { λ s. 0 };
+    ghost failures = { λ s. 0 };
 
     fn next(&mut self, into: &mut [u8]) -> Result<usize, Failed>
         ensures bound { ReadsAtMost result into.new }
@@ -106,7 +106,7 @@ impl Sink for SureSink {
 
     ghost spare = { λ s. s.spare };
 
-    ghost faults = { λ s. 0 };
+    ghost failures = { λ s. 0 };
 
     fn reserve(&mut self, more: usize) -> Result<(), AllocError>
         ensures room { OnOk result (more ≤ self.new.spare) }

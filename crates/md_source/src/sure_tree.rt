@@ -7,7 +7,7 @@ ghost use Rattle.md_source.specs.declared.tree.ListEnd.TheVariants as list_end;
 ghost use Rattle.md_source.specs.declared.tree.ReadEnd.TheVariants as read_end;
 
 use crate::{Entry, ListEnd, ReadEnd, Tree};
-use md_value::{Copied, Items, Path};
+use md_value::{Copied, PlainVec, Path};
 use std::alloc::{AllocError, Global};
 use std::marker::Model;
 
@@ -31,7 +31,7 @@ impl From<AllocError> for ReadEnd {
 #[derive(Debug, Drop)]
 pub struct SureTree {
     folders: Vec<Path>,
-    files: Vec<(Entry, Items<u8>)>,
+    files: Vec<(Entry, PlainVec<u8>)>,
 }
 
 impl Model for SureTree {
@@ -46,7 +46,7 @@ impl Model for SureTree {
 
 impl SureTree {
     /// A tree of these folders, the root among them, and of these files, which have distinct paths.
-    pub fn new(folders: Vec<Path>, files: Vec<(Entry, Items<u8>)>) -> SureTree
+    pub fn new(folders: Vec<Path>, files: Vec<(Entry, PlainVec<u8>)>) -> SureTree
         requires { IsContent (record { folders = folders.items; files = files.items }) }
         ensures { result ≡ record { folders = folders.items; files = files.items } }
     {
@@ -56,7 +56,7 @@ impl SureTree {
 
 fn entries_below(
     alloc: Global,
-    files: &[(Entry, Items<u8>)],
+    files: &[(Entry, PlainVec<u8>)],
     folder: &Path,
 ) -> Result<Vec<Entry>, AllocError>
     ensures { IfOk result (λ entries. entries.items ≡ entries_below files.now folder.now) }
@@ -70,7 +70,7 @@ fn entries_below(
     Ok(entries)
 }
 
-fn file_at<'a>(files: &'a [(Entry, Items<u8>)], path: &Path) -> Option<&'a (Entry, Items<u8>)>
+fn file_at<'a>(files: &'a [(Entry, PlainVec<u8>)], path: &Path) -> Option<&'a (Entry, PlainVec<u8>)>
     ensures { option_copied result ≡ file_at files.now path.now }
 {
     for file in files {
@@ -84,7 +84,7 @@ fn file_at<'a>(files: &'a [(Entry, Items<u8>)], path: &Path) -> Option<&'a (Entr
 impl Tree for SureTree {
     ghost content = { λ t. Some t };
 
-    ghost faults = { λ t. 0 };
+    ghost failures = { λ t. 0 };
 
     fn list(&mut self, alloc: Global, folder: &Path) -> Result<Vec<Entry>, ListEnd>
         ensures listing { IfOk result (λ entries. IsListing folder.now entries.items) }

@@ -52,12 +52,12 @@ pub trait Tree {
     ghost content: { Self → Option Content };
 
     /// How often the tree has failed.
-    ghost faults: { Self → ℕ };
+    ghost failures: { Self → ℕ };
 
     /// The entries of all files below a folder, in any order.
     fn list(&mut self, alloc: Global, folder: &Path) -> Result<Vec<Entry>, ListEnd>
         ensures listing { IfOk result (λ entries. IsListing folder.now entries.items) }
-        ensures cause { ListHasCause (faults self.old) (faults self.new) result }
+        ensures cause { ListHasCause (failures self.old) (failures self.new) result }
         ensures content { content self.new ≡ content self.old }
 
         // Where the content is known.
@@ -69,7 +69,7 @@ pub trait Tree {
     fn find(&mut self, alloc: Global, path: &Path) -> Result<Entry, ReadEnd>
         ensures asked { IfOk result (λ entry. entry.path ≡ path.now) }
         ensures moment { IfOk result (λ entry. IsMoment entry.changed) }
-        ensures cause { ReadHasCause (faults self.old) (faults self.new) result }
+        ensures cause { ReadHasCause (failures self.old) (failures self.new) result }
         ensures content { content self.new ≡ content self.old }
 
         // Where the content is known.
@@ -79,7 +79,7 @@ pub trait Tree {
     /// The first bytes of a file, at most so many, or all where there are fewer.
     fn read(&mut self, alloc: Global, path: &Path, most: usize) -> Result<Vec<u8>, ReadEnd>
         ensures most { IfOk result (λ bytes. vec_len bytes ≤ most) }
-        ensures cause { ReadHasCause (faults self.old) (faults self.new) result }
+        ensures cause { ReadHasCause (failures self.old) (failures self.new) result }
         ensures content { content self.new ≡ content self.old }
 
         // Where the content is known.

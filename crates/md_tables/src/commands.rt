@@ -1,6 +1,6 @@
 // The words of commands.
 use md_rows::{Field, RowError};
-use md_value::{Items, Name, Path};
+use md_value::{PlainVec, Name, Path};
 use md_words::{Command, Mode, Tool, Utf8, WordsError, read_words};
 use std::alloc::{AllocError, Global};
 
@@ -10,14 +10,14 @@ fn push_path(shown: &mut String, path: &Path) -> Result<(), AllocError> {
     shown.push('>')
 }
 
-fn push_paths(shown: &mut String, paths: &Items<Path>) -> Result<(), AllocError> {
+fn push_paths(shown: &mut String, paths: &PlainVec<Path>) -> Result<(), AllocError> {
     for path in paths.as_slice() {
         push_path(shown, path)?;
     }
     Ok(())
 }
 
-fn push_names(shown: &mut String, names: &Items<Name>) -> Result<(), AllocError> {
+fn push_names(shown: &mut String, names: &PlainVec<Name>) -> Result<(), AllocError> {
     for name in names.as_slice() {
         shown.push(' ')?;
         shown.push_str(name.as_str())?;

@@ -1,5 +1,5 @@
 // Printed texts.
-use md_print::{Failure, attrs_text, failure_text, fault_text, shown_path};
+use md_file_text::{Failure, attrs_text, failure_text, fault_text, shown_path};
 use md_rows::{Field, RowError, attributes_of, fault_of};
 use md_value::{Name, Path};
 use std::alloc::Global;

@@ -6,7 +6,7 @@ use denote.RattleType.{RattleType}
 use denote.Ref.{NamedLft}
 use denote.Param.Send.{IsSend, IsSync, sendable, plain_send, struct_send, enum_send, recorded_send, struct_sync, recorded_sync}
 use Rattle.std.proofs.alloc.Global.TheSendSync as heap_sent
-use Rattle.md_value.proofs.items.Items.TheSendSync as items_sent
+use Rattle.md_value.proofs.plain_vec.PlainVec.TheSendSync as items_sent
 use Rattle.md_machine.specs.contracts.Event as event
 use Rattle.md_machine.proofs.Crossing.{event_sends}
 use Rattle.md_turn.specs.contracts.turn.Turn as turn

@@ -31,7 +31,7 @@ fn text_of(alloc: Global, read: Result<Vec<u8>, SourceEnd>) -> Result<Vec<u8>, F
 }
 
 #[test]
-fn a_reader_that_breaks_is_a_fault(rt: HostRuntime) -> Result<(), Fail> {
+fn a_reader_that_breaks_is_a_failure(rt: HostRuntime) -> Result<(), Fail> {
     let alloc = rt.alloc();
     let mut broken = Reading::new(Broken { calls: 0 });
     let read = read_all(alloc, &mut broken, 2);
@@ -42,7 +42,7 @@ fn a_reader_that_breaks_is_a_fault(rt: HostRuntime) -> Result<(), Fail> {
 }
 
 #[test]
-fn a_writer_that_is_full_is_a_fault(rt: HostRuntime) -> Result<(), Fail> {
+fn a_writer_that_is_full_is_a_failure(rt: HostRuntime) -> Result<(), Fail> {
     let mut taken = [0u8; 5];
     let mut writing = Writing::new(Cursor::new(taken.as_mut_slice()));
     writing.reserve(6)?;

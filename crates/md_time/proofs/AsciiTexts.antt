@@ -9,7 +9,7 @@ use Rattle.std.proofs.lemmas.Bool.Decides.{nat_tests}
 use Rattle.std.specs.Int.{is_in_range}
 use Rattle.std.specs.List.{list_all, slice_range}
 use Rattle.md_time.specs.IsoTexts.{stands_for, looks_like, field, is_date_text, is_time_text, is_plain_distance, is_colon_distance, is_zone_text, is_full_text, is_iso}
-use Rattle.md_time.proofs.HeldText.{and_left, and_right, or_cases, full-date, full-zone}
+use Rattle.md_time.proofs.PaddedText.{and_left, and_right, or_cases, full-date, full-zone}
 
 ascii-cons : (c : ℕ) (cs : List ℕ) → c < 128 → IsAscii cs → IsAscii (c ∷ cs)
 ascii-cons c cs h rest zero = h

@@ -1,6 +1,6 @@
 pub mod AsciiTexts
 pub mod Calendar
-pub mod HeldText
+pub mod PaddedText
 pub mod IsoMoments
 pub mod Numbers
 pub mod Pictures

@@ -1,4 +1,4 @@
-pub mod HeldText
+pub mod PaddedText
 pub mod IsoTexts
 pub mod Moments
 pub mod Printed

@@ -18,19 +18,19 @@ pub struct IsoText {
 
 impl Model for IsoText {
     ghost use Rattle.std.specs.Prelude.{List, ℕ, length, take};
-    ghost use Rattle.md_time.specs.HeldText.{padded, IsHeld};
+    ghost use Rattle.md_time.specs.PaddedText.{padded, IsPadded};
 
     ghost Value = { List ℕ };
 
     ghost view = { λ t. take t.len t.bytes };
 
-    ghost invariant = { λ t. IsHeld t.bytes t.len };
+    ghost invariant = { λ t. IsPadded t.bytes t.len };
 
     ghost inverse = { λ text. record { bytes = padded text; len = length text } };
 
     ghost use native.Mathlib.Omega.{arith};
 
-    ghost inverse_ok = { λ t held. Prim.grind (arith, held.len_is, held.bytes_are) };
+    ghost inverse_ok = { λ t is_padded. Prim.grind (arith, is_padded.len_is, is_padded.bytes_are) };
 }
 
 impl IsoText {

@@ -32,7 +32,7 @@ end_status P ok fault absent ended.Ok = ok
 end_status P ok fault absent ended.Failed = fault
 end_status P ok fault absent ended.Absent = absent
 
-pub fault_end : (old new : Files) (end : End) → EndHasCause old.faults new.faults end → status_of end ≡ status.ReadFault → TreeFails old new
+pub fault_end : (old new : Files) (end : End) → EndHasCause old.failures new.failures end → status_of end ≡ status.ReadFault → TreeFails old new
 fault_end old new ended.Ok cause is = cc
 fault_end old new ended.Failed cause is = cause.1
 fault_end old new ended.Absent cause is = cc
@@ -44,7 +44,7 @@ absent_end ended.Absent is = refl
 
 module _ (offset : ℤ) (what : Tool) (old new : Inputs) where
   -- what the end of a tool on the tree tells
-  pub ended_tells : ¬ (IsLive what) → (end : End) → EndHasCause old.tree.faults new.tree.faults end → (end ≡ ended.Absent → LacksNamed old what)
+  pub ended_tells : ¬ (IsLive what) → (end : End) → EndHasCause old.tree.failures new.tree.failures end → (end ≡ ended.Absent → LacksNamed old what)
       → (IsReady offset old what → ¬ (InputFails old new) → end ≡ ended.Ok) → TellsFirst offset what old new (status_of end)
   ended_tells other end cause absent whole = (
     record {

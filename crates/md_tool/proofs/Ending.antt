@@ -5,7 +5,7 @@ use Rattle.md_expr_tree.specs.declared.tree.Expr.{Expr}
 use Rattle.md_files.proofs.Turns.{none_so_far}
 use Rattle.md_files.specs.Folders.AreFoundSoFar.{between_paths}
 use Rattle.md_find.specs.Finds as search
-use Rattle.md_find.specs.Folders.IsHeldSoFar.{without_fault as not_searched}
+use Rattle.md_find.specs.Folders.IsFolderSoFar.{without_failure as not_searched}
 use Rattle.md_find.specs.declared.finding.SearchResult.{SearchResult}
 use Rattle.md_find.specs.declared.finding.Output.{Output}
 use Rattle.md_live.specs.TimeForms.{out_of_range}
@@ -20,12 +20,12 @@ use Rattle.md_words.specs.declared.command.Tool.TheVariants as tool
 use Rattle.md_tool.specs.Causes.{TellsFirst, InputFails, OutputFails, IsReady, IsWhole}
 use Rattle.md_tool.specs.Outside.{Shown, Files, Inputs, Outputs, IsRead, IsShown, Fails, ClockFails, TakesNothing, TakesWhole, TakesPart}
 use Rattle.md_tool.specs.Reports.{Report, refusal, usage, no_clock, refused_script, refused_text, line_out_of_range, of_found}
-use Rattle.md_tool.specs.Asking.{LinesAsk, Answers, Lives, Finds, ToolAsks, Leaves, LivesSoFar, AsksSoFar, CommandAsks, WordsAsk, Prints, Ends}
+use Rattle.md_tool.specs.Asking.{LinesAsk, ScriptAsks, Lives, Finds, ToolAsks, Leaves, LivesSoFar, AsksSoFar, CommandAsks, WordsAsk, Prints, Ends}
 use Rattle.md_tool.specs.Asking.LinesAsk.{misdated}
-use Rattle.md_tool.specs.Asking.Answers.{refuses as script_refuses, unclocked as script_unclocked, runs}
+use Rattle.md_tool.specs.Asking.ScriptAsks.{refuses as script_refuses, unclocked as script_unclocked, runs}
 use Rattle.md_tool.specs.Asking.Lives.{unread, read}
 use Rattle.md_tool.specs.Asking.Finds.{refuses as text_refuses, unclocked as text_unclocked, searches}
-use Rattle.md_tool.specs.Asking.LivesSoFar.{without_fault as not_run}
+use Rattle.md_tool.specs.Asking.LivesSoFar.{without_failure as not_run}
 use Rattle.md_tool.specs.Asking.WordsAsk.{misread, commands}
 use Rattle.md_tool.specs.Asking.Prints.{whole, stopped_in_err, stopped_in_out}
 use Rattle.md_tool.specs.Asking.Ends.{prints, no_memory}
@@ -46,18 +46,18 @@ module _ (now offset : ℤ) (lines : List Line) (old new : Files) where
   asks_misdated line form is same p e = subst (LinesAsk now offset lines old new) (sym e) (misdated line form is same)
 
 module _ (offset : ℤ) (bytes : List ℕ) (clock shown : Shown) (old new : Files) where
-  answers_same : (r : Report) → Answers offset bytes clock shown old new r → (p : Report) → p ≡ r → Answers offset bytes clock shown old new p
-  answers_same r h p e = subst (Answers offset bytes clock shown old new) (sym e) h
+  answers_same : (r : Report) → ScriptAsks offset bytes clock shown old new r → (p : Report) → p ≡ r → ScriptAsks offset bytes clock shown old new p
+  answers_same r h p e = subst (ScriptAsks offset bytes clock shown old new) (sym e) h
 
-  pub answers_refuses : (e : ScriptError) → verdict bytes ≡ Err e → shown ≡ clock → new ≡ old → (p : Report) → p ≡ refused_script e → Answers offset bytes clock shown old new p
+  pub answers_refuses : (e : ScriptError) → verdict bytes ≡ Err e → shown ≡ clock → new ≡ old → (p : Report) → p ≡ refused_script e → ScriptAsks offset bytes clock shown old new p
   answers_refuses e is same kept = answers_same _ (script_refuses e is same kept)
 
   pub answers_unclocked : (lines : List Line) → verdict bytes ≡ Ok lines → ClockFails clock shown → new ≡ old → (p : Report) → p ≡ no_clock
-      → Answers offset bytes clock shown old new p
+      → ScriptAsks offset bytes clock shown old new p
   answers_unclocked lines is rose kept = answers_same _ (script_unclocked lines is rose kept)
 
   pub answers_runs : (lines : List Line) (now : ℤ) → verdict bytes ≡ Ok lines → IsShown clock shown now → (p : Report) → LinesAsk now offset lines old new p
-      → Answers offset bytes clock shown old new p
+      → ScriptAsks offset bytes clock shown old new p
   answers_runs lines now is shows p asks = runs lines now p is shows asks
 
 module _ (offset : ℤ) (old new : Inputs) where
@@ -65,7 +65,7 @@ module _ (offset : ℤ) (old new : Inputs) where
       → (p : Report) → p ≡ refusal status.ReadFault (codes "script could not be read") → Lives offset old new p
   lives_unread rose clock tree p e = subst (Lives offset old new) (sym e) (unread rose clock tree)
 
-  pub lives_read : (bytes : List ℕ) (r : Report) → IsRead old.script new.script bytes → Answers offset bytes old.clock new.clock old.tree new.tree r → Lives offset old new r
+  pub lives_read : (bytes : List ℕ) (r : Report) → IsRead old.script new.script bytes → ScriptAsks offset bytes old.clock new.clock old.tree new.tree r → Lives offset old new r
   lives_read bytes r is answers = read bytes r is answers
 
 module _ (offset : ℤ) (output : Output) (scope : PathBytes) (query : Result Expr ReadError) (old new : Inputs) where
@@ -80,7 +80,7 @@ module _ (offset : ℤ) (output : Output) (scope : PathBytes) (query : Result Ex
   finds_unclocked expr is rose tree script = finds_same _ (text_unclocked expr is rose tree script)
 
   pub finds_searches : (expr : Expr) (now : ℤ) (made : SearchResult) → query ≡ Ok expr → IsShown old.clock new.clock now
-      → search.Finds old.tree.known old.tree.faults new.tree.faults (record { expr = expr; local = record { moment = now; offset = offset }; scope = scope }) output made
+      → search.Finds old.tree.known old.tree.failures new.tree.failures (record { expr = expr; local = record { moment = now; offset = offset }; scope = scope }) output made
       → new.tree.known ≡ old.tree.known → new.script ≡ old.script → (p : Report) → p ≡ of_found made → Finds offset output scope query old new p
   finds_searches expr now made is shows found tree script = finds_same _ (searches expr now made is shows found tree script)
 
@@ -139,8 +139,8 @@ leaves_words words old new parsed is leaves command known =
 -- where nothing is asked, no call on the tree failed
 pub so_far_same : (offset : ℤ) (what : Tool) (old : Inputs) → AsksSoFar offset what old old
 so_far_same offset (tool.Find zero count scope name mode text) old = not_searched refl
-so_far_same offset (tool.Show raw marker names files) old = none_so_far _ old.tree.faults old.tree.faults files refl
-so_far_same offset (tool.Import files) old = between_paths (none_so_far _ old.tree.faults old.tree.faults files refl)
+so_far_same offset (tool.Show raw marker names files) old = none_so_far _ old.tree.failures old.tree.failures files refl
+so_far_same offset (tool.Import files) old = between_paths (none_so_far _ old.tree.failures old.tree.failures files refl)
 so_far_same offset tool.Importers old = refl
 so_far_same offset tool.Attributes old = refl
 so_far_same offset (tool.Live workers) old = not_run refl

@@ -26,12 +26,12 @@ use Rattle.md_tool.proofs.Causes.{known_moment, if_some, at_some, ended_tells}
 -- where all is known and in order, a search ends well
 abbrev pub IsComplete : Search → Files → Files → SearchResult → Content → Type 0
 IsComplete search old new made content =
-    has_folder content.folders search.scope ≡ true → length (entries_below content.files search.scope) ≤ most_files → form_out search ≡ None → ¬ (Rose old.faults new.faults)
+    has_folder content.folders search.scope ≡ true → length (entries_below content.files search.scope) ≤ most_files → form_out search ≡ None → ¬ (Rose old.failures new.failures)
     → EndsBy made ended.Ok
 
 -- what the contract of a search says of what it gives
 pub record IsGiven (search : Search) (old new : Files) (made : SearchResult) : Type 0 where
-  pub cause : HasCause old.faults new.faults made
+  pub cause : HasCause old.failures new.failures made
   pub form : form_reported made ≡ form_out search
   pub full : IfSome old.known (λ content. made ≡ found.Full → most_files < length (entries_below content.files search.scope))
   pub absent : IfSome old.known (λ content. EndsBy made ended.Absent → has_folder content.folders search.scope ≡ false)
@@ -81,11 +81,11 @@ module _ (offset : ℤ) (zero count : Bool) (scope : PathBytes) (name : Option (
 
     -- what the status of what the search gives tells
     pub found_tells : (made : SearchResult) → IsGiven search old.tree new.tree made → TellsFirst offset what old new (of_found made).status
-    found_tells (found.Report report) given =
+    found_tells (found.Done report) given =
         ended_tells offset what old new (λ live. cc (live)) report.end given.cause
         (λ ends. if_some old.tree.known (λ content. has_folder content.folders scope ≡ false)
         (λ content known. at_some old.tree.known (λ content. report.end ≡ ended.Absent → has_folder content.folders scope ≡ false) content known given.absent ends))
-        (ends_well (found.Report report) given)
+        (ends_well (found.Done report) given)
     found_tells found.Full given = (
       record {
         usage = λ x. cc;

@@ -18,9 +18,9 @@ use Rattle.md_source.specs.Tree.{Content}
 use Rattle.md_words.specs.declared.command.Tool.TheVariants as tool
 use Rattle.md_tool.specs.Outside.{Shown, Files, Inputs, ClockFails, TreeFails}
 use Rattle.md_tool.specs.Reports.{Report, refused_script}
-use Rattle.md_tool.specs.Asking.{LinesAsk, Answers, Lives}
+use Rattle.md_tool.specs.Asking.{LinesAsk, ScriptAsks, Lives}
 use Rattle.md_tool.specs.Asking.LinesAsk.{misdated, run}
-use Rattle.md_tool.specs.Asking.Answers.{refuses, unclocked, runs}
+use Rattle.md_tool.specs.Asking.ScriptAsks.{refuses, unclocked, runs}
 use Rattle.md_tool.specs.Asking.Lives.{unread, read}
 use Rattle.md_tool.specs.Causes.{TellsFirst, InputFails, IsReady, IsWhole, IsAccepted, TellsImports, IsRefused, HasFormOut, LacksImport}
 use Rattle.md_tool.specs.declared.status.Status.{Status}
@@ -59,23 +59,23 @@ module _ (now offset : ℤ) (lines : List Line) (old new : Files) where
 
   fault_of_lines : (r : Report) → LinesAsk now offset lines old new r → r.status ≡ status.ReadFault → TreeFails old new
   fault_of_lines _ (misdated line number is same) e = cc
-  fault_of_lines _ (run made none ran same) e = fault_end old new made.end (runs_cause old.faults new.faults now offset lines made old.known ran.runs) e
+  fault_of_lines _ (run made none ran same) e = fault_end old new made.end (runs_cause old.failures new.failures now offset lines made old.known ran.runs) e
 
   absent_of_lines : (content : Content) → old.known ≡ Some content → (r : Report) → LinesAsk now offset lines old new r → r.status ≡ status.Absent
       → tells_imports content lines ≡ false
   absent_of_lines content known _ (misdated line number is same) e = cc
   absent_of_lines content known _ (run made none ran same) e =
       at_some old.known (λ content. made.end ≡ ended.Absent → tells_imports content lines ≡ false) content known
-      (runs_absent old.faults new.faults now offset lines made old.known ran.runs) (absent_end made.end e)
+      (runs_absent old.failures new.failures now offset lines made old.known ran.runs) (absent_end made.end e)
 
-  complete_run : (known : Option Content) → TellsImports known lines → ¬ (TreeFails old new) → (made : files.FileReport) → Runs known old.faults new.faults now offset lines made
+  complete_run : (known : Option Content) → TellsImports known lines → ¬ (TreeFails old new) → (made : files.FileReport) → Runs known old.failures new.failures now offset lines made
       → made.end ≡ ended.Ok
   complete_run None none quiet made ran =
       let empty : Content = record { folders = []; files = [] } in
-      let same : Runs (Some empty) old.faults new.faults now offset lines made =
-      record { givens = ran.givens; given = none_given offset None (Some empty) old.faults new.faults lines ran.givens none ran.given; counted = ran.counted; is = ran.is } in
-      runs_complete old.faults new.faults now offset lines made (Some empty) same (rw none refl) quiet
-  complete_run (Some content) known quiet made ran = runs_complete old.faults new.faults now offset lines made (Some content) ran known quiet
+      let same : Runs (Some empty) old.failures new.failures now offset lines made =
+      record { givens = ran.givens; given = none_given offset None (Some empty) old.failures new.failures lines ran.givens none ran.given; counted = ran.counted; is = ran.is } in
+      runs_complete old.failures new.failures now offset lines made (Some empty) same (rw none refl) quiet
+  complete_run (Some content) known quiet made ran = runs_complete old.failures new.failures now offset lines made (Some content) ran known quiet
 
   whole_of_lines : out_of_range now offset lines ≡ None → TellsImports old.known lines → ¬ (TreeFails old new) → (r : Report) → LinesAsk now offset lines old new r
       → r.status ≡ status.Ok
@@ -91,22 +91,22 @@ script_status P script memory error.Memory = memory
 
 module _ (offset : ℤ) (bytes : List ℕ) (clock shown : Shown) (old new : Files) where
   answer_status : (P : Status → Type 0) → P status.Script → P status.Memory → P status.Ok → P status.Expression → P status.ReadFault → P status.Absent
-      → (r : Report) → Answers offset bytes clock shown old new r → P r.status
+      → (r : Report) → ScriptAsks offset bytes clock shown old new r → P r.status
   answer_status P script memory ok form fault absent _ (refuses e v same kept) = script_status P script memory e
   answer_status P script memory ok form fault absent _ (unclocked lines v rose kept) = fault
   answer_status P script memory ok form fault absent _ (runs lines now r v shows asks) = lines_status now offset lines old new P ok form fault absent r asks
 
-  script_answered : (r : Report) → Answers offset bytes clock shown old new r → r.status ≡ status.Script → IsRefused bytes
+  script_answered : (r : Report) → ScriptAsks offset bytes clock shown old new r → r.status ≡ status.Script → IsRefused bytes
   script_answered _ (refuses e v same kept) is = (e, v)
   script_answered _ (unclocked lines v rose kept) is = cc
   script_answered _ (runs lines now r v shows asks) is = absurd (lines_status now offset lines old new (IsNot status.Script) (λ x. cc) (λ x. cc) (λ x. cc) (λ x. cc) r asks is)
 
-  fault_answered : (r : Report) → Answers offset bytes clock shown old new r → r.status ≡ status.ReadFault → TreeFails old new ⊎ ClockFails clock shown
+  fault_answered : (r : Report) → ScriptAsks offset bytes clock shown old new r → r.status ≡ status.ReadFault → TreeFails old new ⊎ ClockFails clock shown
   fault_answered _ (refuses e v same kept) is = absurd (script_status (IsNot status.ReadFault) (λ x. cc) (λ x. cc) e is)
   fault_answered _ (unclocked lines v rose kept) is = inr rose
   fault_answered _ (runs lines now r v shows asks) is = inl (fault_of_lines now offset lines old new r asks is)
 
-  form_answered : (moment : ℤ) → clock.known ≡ Some moment → (r : Report) → Answers offset bytes clock shown old new r → r.status ≡ status.Expression
+  form_answered : (moment : ℤ) → clock.known ≡ Some moment → (r : Report) → ScriptAsks offset bytes clock shown old new r → r.status ≡ status.Expression
       → HasFormOut moment offset bytes
   form_answered moment resolved _ (refuses e v same kept) is = absurd (script_status (IsNot status.Expression) (λ x. cc) (λ x. cc) e is)
   form_answered moment resolved _ (unclocked lines v rose kept) is = cc
@@ -115,14 +115,14 @@ module _ (offset : ℤ) (bytes : List ℕ) (clock shown : Shown) (old new : File
       let same = known_moment clock.known now moment resolved shows.known in
       (lines, found.0, v, ap (λ m. out_of_range m offset lines) (sym same) ∙ found.1)
 
-  absent_answered : (content : Content) → old.known ≡ Some content → (r : Report) → Answers offset bytes clock shown old new r → r.status ≡ status.Absent
+  absent_answered : (content : Content) → old.known ≡ Some content → (r : Report) → ScriptAsks offset bytes clock shown old new r → r.status ≡ status.Absent
       → LacksImport content bytes
   absent_answered content known _ (refuses e v same kept) is = absurd (script_status (IsNot status.Absent) (λ x. cc) (λ x. cc) e is)
   absent_answered content known _ (unclocked lines v rose kept) is = cc
   absent_answered content known _ (runs lines now r v shows asks) is = (lines, v, absent_of_lines now offset lines old new content known r asks is)
 
   whole_answered : IsAccepted offset clock old.known bytes → ¬ (TreeFails old new) → ¬ (ClockFails clock shown)
-      → (r : Report) → Answers offset bytes clock shown old new r → (r.status ≡ status.Ok) × (length bytes ≤ most_bytes)
+      → (r : Report) → ScriptAsks offset bytes clock shown old new r → (r.status ≡ status.Ok) × (length bytes ≤ most_bytes)
   whole_answered accepted quiet kept _ (refuses e v same tree) = let wrong : Ok accepted.0 ≡ Err e = sym accepted.1 ∙ v in cc (wrong)
   whole_answered accepted quiet kept _ (unclocked lines v rose tree) = absurd (kept rose)
   whole_answered accepted quiet kept _ (runs lines now r v shows asks) =

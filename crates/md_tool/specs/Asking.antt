@@ -2,13 +2,13 @@
 use Rattle.std.specs.Prelude.{◌≡◌, ℕ, ℤ, Bool, if◌then◌else◌, List, codes, None, Some, Result, Ok, Err}
 use Rattle.md_expr_parse.specs.declared.read.ReadError.{ReadError}
 use Rattle.md_expr_tree.specs.declared.tree.Expr.{Expr}
-use Rattle.md_files.specs.Answers.{IsAsked, InTurnSoFar}
+use Rattle.md_files.specs.FileAnswers.{IsAsked, InTurnSoFar}
 use Rattle.md_files.specs.Folders.{AreFoundSoFar}
 use Rattle.md_files.specs.Reports as files
 use Rattle.md_files.specs.Reports.{Shows, Imports}
 use Rattle.md_files.specs.Tables.{importers_text, attributes_text}
 use Rattle.md_find.specs.Finds as search
-use Rattle.md_find.specs.Folders.{IsHeldSoFar}
+use Rattle.md_find.specs.Folders.{IsFolderSoFar}
 use Rattle.md_find.specs.Searches.{search_of}
 use Rattle.md_find.specs.declared.finding.SearchResult.{SearchResult}
 use Rattle.md_find.specs.declared.finding.Output.{Output}
@@ -42,22 +42,22 @@ pub record OfFiles (old new : Inputs) (Makes : files.FileReport → Type 0) (rep
 -- What the lines of a script ask of the tree now at an offset: nothing where a form of time is out of range.
 pub data LinesAsk (now offset : ℤ) (lines : List Line) (old new : Files) : Report → Type 0 where
   misdated : (line form : ℕ) → out_of_range now offset lines ≡ Some (line, form) → new ≡ old → LinesAsk now offset lines old new (line_out_of_range line form)
-  run : (made : files.FileReport) → out_of_range now offset lines ≡ None → Headline old.known old.faults new.faults now offset lines made → new.known ≡ old.known
+  run : (made : files.FileReport) → out_of_range now offset lines ≡ None → Headline old.known old.failures new.failures now offset lines made → new.known ≡ old.known
       → LinesAsk now offset lines old new (of_files made)
 
 -- What a script in bytes asks of the clock, before and after, and of the tree: the clock is read only where the script is
 -- accepted, and the tree only after the clock.
-pub data Answers (offset : ℤ) (bytes : List ℕ) (clock shown : Shown) (old new : Files) : Report → Type 0 where
-  refuses : (e : ScriptError) → verdict bytes ≡ Err e → shown ≡ clock → new ≡ old → Answers offset bytes clock shown old new (refused_script e)
-  unclocked : (lines : List Line) → verdict bytes ≡ Ok lines → ClockFails clock shown → new ≡ old → Answers offset bytes clock shown old new no_clock
+pub data ScriptAsks (offset : ℤ) (bytes : List ℕ) (clock shown : Shown) (old new : Files) : Report → Type 0 where
+  refuses : (e : ScriptError) → verdict bytes ≡ Err e → shown ≡ clock → new ≡ old → ScriptAsks offset bytes clock shown old new (refused_script e)
+  unclocked : (lines : List Line) → verdict bytes ≡ Ok lines → ClockFails clock shown → new ≡ old → ScriptAsks offset bytes clock shown old new no_clock
   runs : (lines : List Line) (now : ℤ) (report : Report) → verdict bytes ≡ Ok lines → IsShown clock shown now → LinesAsk now offset lines old new report
-      → Answers offset bytes clock shown old new report
+      → ScriptAsks offset bytes clock shown old new report
 
 -- What `live` asks at an offset: the clock and the tree are asked only after the script is read.
 pub data Lives (offset : ℤ) (old new : Inputs) : Report → Type 0 where
   unread : Fails old.script new.script → new.clock ≡ old.clock → new.tree ≡ old.tree
       → Lives offset old new (refusal status.ReadFault (codes "script could not be read"))
-  read : (bytes : List ℕ) (report : Report) → IsRead old.script new.script bytes → Answers offset bytes old.clock new.clock old.tree new.tree report
+  read : (bytes : List ℕ) (report : Report) → IsRead old.script new.script bytes → ScriptAsks offset bytes old.clock new.clock old.tree new.tree report
       → Lives offset old new report
 
 -- how the paths that are found are printed: their number takes the place of zero bytes behind them
@@ -71,14 +71,14 @@ pub data Finds (offset : ℤ) (output : Output) (scope : PathBytes) (query : Res
   unclocked : (expr : Expr) → query ≡ Ok expr → ClockFails old.clock new.clock → new.tree ≡ old.tree → new.script ≡ old.script
       → Finds offset output scope query old new no_clock
   searches : (expr : Expr) (now : ℤ) (found : SearchResult) → query ≡ Ok expr → IsShown old.clock new.clock now
-      → search.Finds old.tree.known old.tree.faults new.tree.faults (record { expr = expr; local = record { moment = now; offset = offset }; scope = scope }) output found
+      → search.Finds old.tree.known old.tree.failures new.tree.failures (record { expr = expr; local = record { moment = now; offset = offset }; scope = scope }) output found
       → new.tree.known ≡ old.tree.known → new.script ≡ old.script → Finds offset output scope query old new (of_found found)
 
 -- what a tool asks at an offset, and what is printed of it
 abbrev pub ToolAsks : ℤ → Inputs → Inputs → Tool → Report → Type 0
 ToolAsks offset old new (tool.Find zero count scope name mode text) report = Finds offset (output_of zero count) scope (search_of name mode text) old new report
-ToolAsks offset old new (tool.Show raw marker names files) report = OfFiles old new (Shows old.tree.known old.tree.faults new.tree.faults offset raw marker names files) report
-ToolAsks offset old new (tool.Import files) report = OfFiles old new (Imports old.tree.known old.tree.faults new.tree.faults offset files) report
+ToolAsks offset old new (tool.Show raw marker names files) report = OfFiles old new (Shows old.tree.known old.tree.failures new.tree.failures offset raw marker names files) report
+ToolAsks offset old new (tool.Import files) report = OfFiles old new (Imports old.tree.known old.tree.failures new.tree.failures offset files) report
 ToolAsks offset old new tool.Importers report = (new ≡ old) × (report ≡ plain importers_text)
 ToolAsks offset old new tool.Attributes report = (new ≡ old) × (report ≡ plain attributes_text)
 ToolAsks offset old new (tool.Live None) report = Lives offset old new report
@@ -101,16 +101,16 @@ Leaves _ old new = new ≡ old
 -- How far the askings of the tree by `live` came: no call failed, or the files that the lines of a script import were asked for
 -- in turn, some of the first of them or all.
 pub data LivesSoFar (offset : ℤ) (old new : Inputs) : Type 0 where
-  without_fault : new.tree.faults ≡ old.tree.faults → LivesSoFar offset old new
+  without_failure : new.tree.failures ≡ old.tree.failures → LivesSoFar offset old new
   in_lines : (bytes : List ℕ) (lines : List Line) → IsRead old.script new.script bytes → verdict bytes ≡ Ok lines
-      → InTurnSoFar (IsGiven offset old.tree.known) old.tree.faults new.tree.faults lines → LivesSoFar offset old new
+      → InTurnSoFar (IsGiven offset old.tree.known) old.tree.failures new.tree.failures lines → LivesSoFar offset old new
 
 -- How far the askings of the tree by a tool came, whatever its status is, also where memory runs out: each call on the tree is
 -- one of the askings of the files and folders that the tool names, some of the first of them or all, in turn.
 abbrev pub AsksSoFar : ℤ → Tool → Inputs → Inputs → Type 0
-AsksSoFar offset (tool.Find zero count scope name mode text) old new = IsHeldSoFar old.tree.known old.tree.faults new.tree.faults scope
-AsksSoFar offset (tool.Show raw marker names files) old new = InTurnSoFar (IsAsked old.tree.known) old.tree.faults new.tree.faults files
-AsksSoFar offset (tool.Import files) old new = AreFoundSoFar old.tree.known old.tree.faults new.tree.faults files
+AsksSoFar offset (tool.Find zero count scope name mode text) old new = IsFolderSoFar old.tree.known old.tree.failures new.tree.failures scope
+AsksSoFar offset (tool.Show raw marker names files) old new = InTurnSoFar (IsAsked old.tree.known) old.tree.failures new.tree.failures files
+AsksSoFar offset (tool.Import files) old new = AreFoundSoFar old.tree.known old.tree.failures new.tree.failures files
 AsksSoFar offset (tool.Live workers) old new = LivesSoFar offset old new
 AsksSoFar offset _ old new = new.tree ≡ old.tree
 

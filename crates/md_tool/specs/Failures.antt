@@ -2,7 +2,7 @@
 use Rattle.std.specs.Prelude.{ℕ, ℤ, List, None, Some, Result, Option}
 use Rattle.md_expr_parse.specs.declared.read.ReadError.{ReadError}
 use Rattle.md_expr_tree.specs.declared.tree.Expr.{Expr}
-use Rattle.md_files.specs.Answers as answered
+use Rattle.md_files.specs.FileAnswers as answered
 use Rattle.md_files.specs.Folders.{all_failures}
 use Rattle.md_find.specs.Finds as search
 use Rattle.md_find.specs.Finds.Finds.{misdates, asks as asks_folder}
@@ -20,9 +20,9 @@ use Rattle.md_words.specs.declared.command.Tool.{Tool}
 use Rattle.md_words.specs.declared.command.Tool.TheVariants as tool
 use Rattle.md_tool.specs.Outside.{Shown, Files, Inputs}
 use Rattle.md_tool.specs.Reports.{Report}
-use Rattle.md_tool.specs.Asking.{LinesAsk, Answers, Lives, Finds, ToolAsks, CommandAsks, output_of}
+use Rattle.md_tool.specs.Asking.{LinesAsk, ScriptAsks, Lives, Finds, ToolAsks, CommandAsks, output_of}
 use Rattle.md_tool.specs.Asking.LinesAsk.{misdated, run}
-use Rattle.md_tool.specs.Asking.Answers.{refuses as script_refuses, unclocked as script_unclocked, runs}
+use Rattle.md_tool.specs.Asking.ScriptAsks.{refuses as script_refuses, unclocked as script_unclocked, runs}
 use Rattle.md_tool.specs.Asking.Lives.{unread, read}
 use Rattle.md_tool.specs.Asking.Finds.{refuses as text_refuses, unclocked as text_unclocked, searches}
 
@@ -32,7 +32,7 @@ of_lines now offset lines old new _ (misdated line form out same) = 0
 of_lines now offset lines old new _ (run made none headline same) = live.failures headline.runs.givens
 
 -- of a script in bytes
-abbrev pub of_script : (offset : ℤ) (bytes : List ℕ) (clock shown : Shown) (old new : Files) (report : Report) → Answers offset bytes clock shown old new report → ℕ
+abbrev pub of_script : (offset : ℤ) (bytes : List ℕ) (clock shown : Shown) (old new : Files) (report : Report) → ScriptAsks offset bytes clock shown old new report → ℕ
 of_script offset bytes clock shown old new _ (script_refuses e is same kept) = 0
 of_script offset bytes clock shown old new _ (script_unclocked lines is rose kept) = 0
 of_script offset bytes clock shown old new _ (runs lines now report is shows asks) = of_lines now offset lines old new report asks
@@ -52,7 +52,7 @@ abbrev pub of_find : (offset : ℤ) (output : Output) (scope : PathBytes) (query
 of_find offset output scope query old new _ (text_refuses e is same) = 0
 of_find offset output scope query old new _ (text_unclocked expr is rose tree script) = 0
 of_find offset output scope query old new _ (searches expr now found is shows finds content script) =
-    of_search old.tree.known old.tree.faults new.tree.faults (record { expr = expr; local = record { moment = now; offset = offset }; scope = scope }) output found finds
+    of_search old.tree.known old.tree.failures new.tree.failures (record { expr = expr; local = record { moment = now; offset = offset }; scope = scope }) output found finds
 
 -- of a tool
 abbrev pub of_tool : (offset : ℤ) (old new : Inputs) (what : Tool) (report : Report) → ToolAsks offset old new what report → ℕ

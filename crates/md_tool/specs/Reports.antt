@@ -76,6 +76,6 @@ too_many_files = refusal status.Full (codes "more than " ++ (decimal most_files 
 
 -- what `mdfind` prints of what its search gives
 abbrev pub of_found : SearchResult → Report
-of_found (found.Report made) = of_files made
+of_found (found.Done made) = of_files made
 of_found found.Full = too_many_files
 of_found (found.OutOfRange form) = form_out_of_range form

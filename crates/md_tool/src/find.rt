@@ -2,7 +2,7 @@
 ghost use Rattle.std.specs.Prelude.{◌≡◌, ◌≤◌, ℕ, Bool, List, Option, IsErr, IfOk, Err};
 ghost use Rattle.std.specs.Option.{option_map};
 ghost use Rattle.md_expr_parse.specs.declared.read.ReadError.TheVariants.{Memory};
-ghost use Rattle.md_find.specs.Folders.{IsHeldSoFar};
+ghost use Rattle.md_find.specs.Folders.{IsFolderSoFar};
 ghost use Rattle.md_find.specs.Searches.{search_of};
 ghost use Rattle.md_tool.specs.Reports.{refused_text, form_out_of_range, too_many_files, of_found};
 ghost use Rattle.md_words.specs.declared.command.Mode.{Mode};
@@ -56,7 +56,7 @@ fn of_found(alloc: Global, found: SearchResult) -> Result<Report, AllocError>
     ensures { IfOk result (λ report. report ≡ of_found found) }
 {
     match found {
-        SearchResult::Report(made) => Ok(of_files(made)),
+        SearchResult::Done(made) => Ok(of_files(made)),
         SearchResult::Full => too_many_files(alloc),
         SearchResult::OutOfRange(form) => form_out_of_range(alloc, form),
     }
@@ -97,18 +97,18 @@ pub(crate) fn find<R: Threads + Sync, T: Tree, C: Clock>(
     clock: &mut C,
 ) -> Result<Report, AllocError>
     ensures asks { (script : Bytes) → IfOk result (λ report. Finds offset output scope.now query
-        (inputs (T.content tree.old) (T.faults tree.old) script.known script.faults (C.moment clock.old) (C.faults clock.old))
-        (inputs (T.content tree.new) (T.faults tree.new) script.known script.faults (C.moment clock.new) (C.faults clock.new))
+        (inputs (T.content tree.old) (T.failures tree.old) script.known script.failures (C.moment clock.old) (C.failures clock.old))
+        (inputs (T.content tree.new) (T.failures tree.new) script.known script.failures (C.moment clock.new) (C.failures clock.new))
         report) }
     ensures tells { (script : Bytes) (zero count : Bool) (name : Option (List ℕ)) (mode : Mode) (text : Option (List ℕ))
         → search_of name mode text ≡ query → IfOk result (λ report. TellsFirst offset (Find zero count scope.now name mode text)
-        (inputs (T.content tree.old) (T.faults tree.old) script.known script.faults (C.moment clock.old) (C.faults clock.old))
-        (inputs (T.content tree.new) (T.faults tree.new) script.known script.faults (C.moment clock.new) (C.faults clock.new))
+        (inputs (T.content tree.old) (T.failures tree.old) script.known script.failures (C.moment clock.old) (C.failures clock.old))
+        (inputs (T.content tree.new) (T.failures tree.new) script.known script.failures (C.moment clock.new) (C.failures clock.new))
         report.status) }
     ensures memory { query ≡ Err Memory → IsErr result }
-    ensures so_far { IsHeldSoFar (T.content tree.old) (T.faults tree.old) (T.faults tree.new) scope.now }
+    ensures so_far { IsFolderSoFar (T.content tree.old) (T.failures tree.old) (T.failures tree.new) scope.now }
     ensures content { T.content tree.new ≡ T.content tree.old }
-    ensures later { T.faults tree.old ≤ T.faults tree.new }
+    ensures later { T.failures tree.old ≤ T.failures tree.new }
 {
     let expr = match query {
         Ok(expr) => expr,

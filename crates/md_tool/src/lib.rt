@@ -6,7 +6,7 @@
 //!
 //! Its contract says what is asked of each object and what is printed of the answers, what each status tells of them, that
 //! what a command does not name stays as it was also where memory runs out, which calls on the tree there were by then, and
-//! when a run is complete. [`laws`] say that no more askings of the tree failed than its count of faults rose by.
+//! when a run is complete. [`laws`] say that no more askings of the tree failed than its count of failures rose by.
 #![tactic(auto)]
 
 mod find;

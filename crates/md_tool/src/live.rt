@@ -2,7 +2,7 @@
 ghost use Rattle.std.specs.Prelude.{◌≡◌, ◌≤◌, ◌⊎◌, IsErr, IfOk, List, length, None, Ok};
 ghost use Rattle.md_script.specs.Limits.{most_lines};
 ghost use Rattle.md_value.specs.Values.{IsMoment};
-ghost use Rattle.md_files.specs.Answers.{InTurnSoFar};
+ghost use Rattle.md_files.specs.FileAnswers.{InTurnSoFar};
 ghost use Rattle.md_live.specs.Given.{IsGiven};
 ghost use Rattle.md_script.specs.Scripts.{verdict};
 ghost use Rattle.md_script.specs.declared.script.Line.{Line};
@@ -10,7 +10,7 @@ ghost use Rattle.md_script.specs.declared.script.ScriptError.TheVariants.{BadLin
 ghost use Rattle.md_tool.specs.Reports.{refused_script, line_out_of_range};
 ghost use Rattle.md_words.specs.declared.command.Tool.TheVariants.{Live};
 ghost use Rattle.md_tool.specs.Outside.{inputs};
-ghost use Rattle.md_tool.specs.Asking.{LinesAsk, Answers, Lives, LivesSoFar};
+ghost use Rattle.md_tool.specs.Asking.{LinesAsk, ScriptAsks, Lives, LivesSoFar};
 ghost use Rattle.md_tool.specs.Causes.{TellsFirst};
 
 use crate::Status;
@@ -58,11 +58,11 @@ fn of_lines<T: Tree>(
     requires few { length lines.now ≤ most_lines }
     requires moment { IsMoment start.now.moment }
     ensures asks { IfOk result (λ report. LinesAsk start.now.moment start.now.offset lines.now
-        (record { known = T.content tree.old; faults = T.faults tree.old })
-        (record { known = T.content tree.new; faults = T.faults tree.new }) report) }
-    ensures so_far { InTurnSoFar (IsGiven start.now.offset (T.content tree.old)) (T.faults tree.old) (T.faults tree.new) lines.now }
+        (record { known = T.content tree.old; failures = T.failures tree.old })
+        (record { known = T.content tree.new; failures = T.failures tree.new }) report) }
+    ensures so_far { InTurnSoFar (IsGiven start.now.offset (T.content tree.old)) (T.failures tree.old) (T.failures tree.new) lines.now }
     ensures content { T.content tree.new ≡ T.content tree.old }
-    ensures later { T.faults tree.old ≤ T.faults tree.new }
+    ensures later { T.failures tree.old ≤ T.failures tree.new }
 {
     if let Some((line, form)) = out_of_range(start, lines) {
         return line_out_of_range(alloc, line, form);
@@ -79,15 +79,15 @@ fn answer<T: Tree, C: Clock>(
     tree: &mut T,
     clock: &mut C,
 ) -> Result<Report, AllocError>
-    ensures asks { IfOk result (λ report. Answers offset bytes.now
-        (record { known = C.moment clock.old; faults = C.faults clock.old })
-        (record { known = C.moment clock.new; faults = C.faults clock.new })
-        (record { known = T.content tree.old; faults = T.faults tree.old })
-        (record { known = T.content tree.new; faults = T.faults tree.new }) report) }
-    ensures so_far { (T.faults tree.new ≡ T.faults tree.old) ⊎ ((lines : List Line) × (verdict bytes.now ≡ Ok lines)
-        × InTurnSoFar (IsGiven offset (T.content tree.old)) (T.faults tree.old) (T.faults tree.new) lines) }
+    ensures asks { IfOk result (λ report. ScriptAsks offset bytes.now
+        (record { known = C.moment clock.old; failures = C.failures clock.old })
+        (record { known = C.moment clock.new; failures = C.failures clock.new })
+        (record { known = T.content tree.old; failures = T.failures tree.old })
+        (record { known = T.content tree.new; failures = T.failures tree.new }) report) }
+    ensures so_far { (T.failures tree.new ≡ T.failures tree.old) ⊎ ((lines : List Line) × (verdict bytes.now ≡ Ok lines)
+        × InTurnSoFar (IsGiven offset (T.content tree.old)) (T.failures tree.old) (T.failures tree.new) lines) }
     ensures content { T.content tree.new ≡ T.content tree.old }
-    ensures later { T.faults tree.old ≤ T.faults tree.new }
+    ensures later { T.failures tree.old ≤ T.failures tree.new }
 {
     let script = match read_script(alloc, bytes) {
         Ok(script) => script,
@@ -113,18 +113,18 @@ pub(crate) fn live<T: Tree, S: Source, C: Clock>(
     clock: &mut C,
 ) -> Result<Report, AllocError>
     ensures asks { IfOk result (λ report. Lives offset
-        (inputs (T.content tree.old) (T.faults tree.old) (S.left script.old) (S.faults script.old) (C.moment clock.old) (C.faults clock.old))
-        (inputs (T.content tree.new) (T.faults tree.new) (S.left script.new) (S.faults script.new) (C.moment clock.new) (C.faults clock.new))
+        (inputs (T.content tree.old) (T.failures tree.old) (S.left script.old) (S.failures script.old) (C.moment clock.old) (C.failures clock.old))
+        (inputs (T.content tree.new) (T.failures tree.new) (S.left script.new) (S.failures script.new) (C.moment clock.new) (C.failures clock.new))
         report) }
     ensures so_far { LivesSoFar offset
-        (inputs (T.content tree.old) (T.faults tree.old) (S.left script.old) (S.faults script.old) (C.moment clock.old) (C.faults clock.old))
-        (inputs (T.content tree.new) (T.faults tree.new) (S.left script.new) (S.faults script.new) (C.moment clock.new) (C.faults clock.new)) }
+        (inputs (T.content tree.old) (T.failures tree.old) (S.left script.old) (S.failures script.old) (C.moment clock.old) (C.failures clock.old))
+        (inputs (T.content tree.new) (T.failures tree.new) (S.left script.new) (S.failures script.new) (C.moment clock.new) (C.failures clock.new)) }
     ensures tells { IfOk result (λ report. TellsFirst offset (Live None)
-        (inputs (T.content tree.old) (T.faults tree.old) (S.left script.old) (S.faults script.old) (C.moment clock.old) (C.faults clock.old))
-        (inputs (T.content tree.new) (T.faults tree.new) (S.left script.new) (S.faults script.new) (C.moment clock.new) (C.faults clock.new))
+        (inputs (T.content tree.old) (T.failures tree.old) (S.left script.old) (S.failures script.old) (C.moment clock.old) (C.failures clock.old))
+        (inputs (T.content tree.new) (T.failures tree.new) (S.left script.new) (S.failures script.new) (C.moment clock.new) (C.failures clock.new))
         report.status) }
     ensures content { T.content tree.new ≡ T.content tree.old }
-    ensures later { T.faults tree.old ≤ T.faults tree.new }
+    ensures later { T.failures tree.old ≤ T.failures tree.new }
 {
     match read_all(alloc, script, MOST_BYTES) {
         Ok(bytes) => {

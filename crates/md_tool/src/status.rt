@@ -12,9 +12,9 @@ pub enum Status {
     /// The search text is refused, or a form of time of it or of the script is out of range at the moment that the clock
     /// showed.
     Expression,
-    /// A call on the tree, the script or the clock failed: its count of faults rose.
+    /// A call on the tree, the script or the clock failed: its count of failures rose.
     ReadFault,
-    /// A call on a sink failed: its count of faults rose, and a prefix of the texts was put.
+    /// A call on a sink failed: its count of failures rose, and a prefix of the texts was put.
     WriteFault,
     /// Memory ran out, and nothing was put.
     Memory,

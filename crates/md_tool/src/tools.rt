@@ -5,7 +5,7 @@ ghost use Rattle.md_words.specs.declared.command.Tool.TheVariants.{Show, Import}
 ghost use Rattle.md_tool.specs.Outside.{Bytes, Shown, inputs};
 ghost use Rattle.md_tool.specs.Asking.{OfFiles, ToolAsks, Leaves, AsksSoFar};
 ghost use Rattle.md_tool.specs.Causes.{TellsFirst};
-ghost use Rattle.md_files.specs.Answers.{IsAsked, InTurnSoFar};
+ghost use Rattle.md_files.specs.FileAnswers.{IsAsked, InTurnSoFar};
 ghost use Rattle.md_files.specs.Folders.{AreFoundSoFar};
 ghost use Rattle.md_files.specs.Reports.{Shows, Imports};
 
@@ -30,16 +30,16 @@ fn show<T: Tree>(
     files: &[Path],
 ) -> Result<Report, AllocError>
     ensures asks { (script : Bytes) (clock : Shown) → IfOk result (λ report. OfFiles
-        (inputs (T.content tree.old) (T.faults tree.old) script.known script.faults clock.known clock.faults)
-        (inputs (T.content tree.new) (T.faults tree.new) script.known script.faults clock.known clock.faults)
-        (Shows (T.content tree.old) (T.faults tree.old) (T.faults tree.new) offset raw marker.now names.now files.now) report) }
+        (inputs (T.content tree.old) (T.failures tree.old) script.known script.failures clock.known clock.failures)
+        (inputs (T.content tree.new) (T.failures tree.new) script.known script.failures clock.known clock.failures)
+        (Shows (T.content tree.old) (T.failures tree.old) (T.failures tree.new) offset raw marker.now names.now files.now) report) }
     ensures tells { (script : Bytes) (clock : Shown) → IfOk result (λ report. TellsFirst offset (Show raw marker.now names.now files.now)
-        (inputs (T.content tree.old) (T.faults tree.old) script.known script.faults clock.known clock.faults)
-        (inputs (T.content tree.new) (T.faults tree.new) script.known script.faults clock.known clock.faults)
+        (inputs (T.content tree.old) (T.failures tree.old) script.known script.failures clock.known clock.failures)
+        (inputs (T.content tree.new) (T.failures tree.new) script.known script.failures clock.known clock.failures)
         report.status) }
-    ensures so_far { InTurnSoFar (IsAsked (T.content tree.old)) (T.faults tree.old) (T.faults tree.new) files.now }
+    ensures so_far { InTurnSoFar (IsAsked (T.content tree.old)) (T.failures tree.old) (T.failures tree.new) files.now }
     ensures content { T.content tree.new ≡ T.content tree.old }
-    ensures later { T.faults tree.old ≤ T.faults tree.new }
+    ensures later { T.failures tree.old ≤ T.failures tree.new }
 {
     let made = md_files::show(alloc, tree, offset, raw, marker, names, files)?;
     Ok(of_files(made))
@@ -52,16 +52,16 @@ fn import<T: Tree>(
     files: &[Path],
 ) -> Result<Report, AllocError>
     ensures asks { (script : Bytes) (clock : Shown) → IfOk result (λ report. OfFiles
-        (inputs (T.content tree.old) (T.faults tree.old) script.known script.faults clock.known clock.faults)
-        (inputs (T.content tree.new) (T.faults tree.new) script.known script.faults clock.known clock.faults)
-        (Imports (T.content tree.old) (T.faults tree.old) (T.faults tree.new) offset files.now) report) }
+        (inputs (T.content tree.old) (T.failures tree.old) script.known script.failures clock.known clock.failures)
+        (inputs (T.content tree.new) (T.failures tree.new) script.known script.failures clock.known clock.failures)
+        (Imports (T.content tree.old) (T.failures tree.old) (T.failures tree.new) offset files.now) report) }
     ensures tells { (script : Bytes) (clock : Shown) → IfOk result (λ report. TellsFirst offset (Import files.now)
-        (inputs (T.content tree.old) (T.faults tree.old) script.known script.faults clock.known clock.faults)
-        (inputs (T.content tree.new) (T.faults tree.new) script.known script.faults clock.known clock.faults)
+        (inputs (T.content tree.old) (T.failures tree.old) script.known script.failures clock.known clock.failures)
+        (inputs (T.content tree.new) (T.failures tree.new) script.known script.failures clock.known clock.failures)
         report.status) }
-    ensures so_far { AreFoundSoFar (T.content tree.old) (T.faults tree.old) (T.faults tree.new) files.now }
+    ensures so_far { AreFoundSoFar (T.content tree.old) (T.failures tree.old) (T.failures tree.new) files.now }
     ensures content { T.content tree.new ≡ T.content tree.old }
-    ensures later { T.faults tree.old ≤ T.faults tree.new }
+    ensures later { T.failures tree.old ≤ T.failures tree.new }
 {
     let made = md_files::import(alloc, tree, offset, files)?;
     Ok(of_files(made))
@@ -78,19 +78,19 @@ pub(crate) fn asked<R: Threads + Sync, T: Tree, S: Source, C: Clock>(
 ) -> Result<Report, AllocError>
     requires { is_offered command.now.what ≡ true }
     ensures asks { IfOk result (λ report. ToolAsks command.now.offset
-        (inputs (T.content tree.old) (T.faults tree.old) (S.left script.old) (S.faults script.old) (C.moment clock.old) (C.faults clock.old))
-        (inputs (T.content tree.new) (T.faults tree.new) (S.left script.new) (S.faults script.new) (C.moment clock.new) (C.faults clock.new))
+        (inputs (T.content tree.old) (T.failures tree.old) (S.left script.old) (S.failures script.old) (C.moment clock.old) (C.failures clock.old))
+        (inputs (T.content tree.new) (T.failures tree.new) (S.left script.new) (S.failures script.new) (C.moment clock.new) (C.failures clock.new))
         command.now.what report) }
     ensures tells { IfOk result (λ report. TellsFirst command.now.offset command.now.what
-        (inputs (T.content tree.old) (T.faults tree.old) (S.left script.old) (S.faults script.old) (C.moment clock.old) (C.faults clock.old))
-        (inputs (T.content tree.new) (T.faults tree.new) (S.left script.new) (S.faults script.new) (C.moment clock.new) (C.faults clock.new))
+        (inputs (T.content tree.old) (T.failures tree.old) (S.left script.old) (S.failures script.old) (C.moment clock.old) (C.failures clock.old))
+        (inputs (T.content tree.new) (T.failures tree.new) (S.left script.new) (S.failures script.new) (C.moment clock.new) (C.failures clock.new))
         report.status) }
     ensures so_far { AsksSoFar command.now.offset command.now.what
-        (inputs (T.content tree.old) (T.faults tree.old) (S.left script.old) (S.faults script.old) (C.moment clock.old) (C.faults clock.old))
-        (inputs (T.content tree.new) (T.faults tree.new) (S.left script.new) (S.faults script.new) (C.moment clock.new) (C.faults clock.new)) }
+        (inputs (T.content tree.old) (T.failures tree.old) (S.left script.old) (S.failures script.old) (C.moment clock.old) (C.failures clock.old))
+        (inputs (T.content tree.new) (T.failures tree.new) (S.left script.new) (S.failures script.new) (C.moment clock.new) (C.failures clock.new)) }
     ensures leaves { Leaves command.now.what
-        (inputs (T.content tree.old) (T.faults tree.old) (S.left script.old) (S.faults script.old) (C.moment clock.old) (C.faults clock.old))
-        (inputs (T.content tree.new) (T.faults tree.new) (S.left script.new) (S.faults script.new) (C.moment clock.new) (C.faults clock.new)) }
+        (inputs (T.content tree.old) (T.failures tree.old) (S.left script.old) (S.failures script.old) (C.moment clock.old) (C.failures clock.old))
+        (inputs (T.content tree.new) (T.failures tree.new) (S.left script.new) (S.failures script.new) (C.moment clock.new) (C.failures clock.new)) }
 {
     let offset = command.offset;
     match &command.what {

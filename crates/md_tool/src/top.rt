@@ -32,12 +32,12 @@ pub fn run_tool<R: Threads + Sync, T: Tree, S: Source, C: Clock, K: Sink, E: Sin
     requires { is_offered command.now.what ≡ true }
     // What the command does, from the outside before it to the outside after it.
     ensures runs { CommandRuns command.now
-        (outside (files (T.content tree.old) (T.faults tree.old)) (bytes (S.left script.old) (S.faults script.old))
-        (shown (C.moment clock.old) (C.faults clock.old))
-        (bytes (K.taken out.old) (K.faults out.old)) (bytes (E.taken err.old) (E.faults err.old)))
-        (outside (files (T.content tree.new) (T.faults tree.new)) (bytes (S.left script.new) (S.faults script.new))
-        (shown (C.moment clock.new) (C.faults clock.new))
-        (bytes (K.taken out.new) (K.faults out.new)) (bytes (E.taken err.new) (E.faults err.new)))
+        (outside (files (T.content tree.old) (T.failures tree.old)) (bytes (S.left script.old) (S.failures script.old))
+        (shown (C.moment clock.old) (C.failures clock.old))
+        (bytes (K.taken out.old) (K.failures out.old)) (bytes (E.taken err.old) (E.failures err.old)))
+        (outside (files (T.content tree.new) (T.failures tree.new)) (bytes (S.left script.new) (S.failures script.new))
+        (shown (C.moment clock.new) (C.failures clock.new))
+        (bytes (K.taken out.new) (K.failures out.new)) (bytes (E.taken err.new) (E.failures err.new)))
         result.status }
 {
     run_command(rt, alloc, command, tree, script, clock, out, err)
@@ -57,12 +57,12 @@ pub fn run<R: Threads + Sync, T: Tree, S: Source, C: Clock, K: Sink, E: Sink>(
 ) -> Outcome
     // What the words do, from the outside before it to the outside after it.
     ensures runs { Runs (texts words.now)
-        (outside (files (T.content tree.old) (T.faults tree.old)) (bytes (S.left script.old) (S.faults script.old))
-        (shown (C.moment clock.old) (C.faults clock.old))
-        (bytes (K.taken out.old) (K.faults out.old)) (bytes (E.taken err.old) (E.faults err.old)))
-        (outside (files (T.content tree.new) (T.faults tree.new)) (bytes (S.left script.new) (S.faults script.new))
-        (shown (C.moment clock.new) (C.faults clock.new))
-        (bytes (K.taken out.new) (K.faults out.new)) (bytes (E.taken err.new) (E.faults err.new)))
+        (outside (files (T.content tree.old) (T.failures tree.old)) (bytes (S.left script.old) (S.failures script.old))
+        (shown (C.moment clock.old) (C.failures clock.old))
+        (bytes (K.taken out.old) (K.failures out.old)) (bytes (E.taken err.old) (E.failures err.old)))
+        (outside (files (T.content tree.new) (T.failures tree.new)) (bytes (S.left script.new) (S.failures script.new))
+        (shown (C.moment clock.new) (C.failures clock.new))
+        (bytes (K.taken out.new) (K.failures out.new)) (bytes (E.taken err.new) (E.failures err.new)))
         result.status }
 {
     run_words(rt, alloc, words, tree, script, clock, out, err)

@@ -137,7 +137,7 @@ module _ (machine : ServerState → Event → StepResult) {H : Type 0} (journal_
   alone : (s : State (Option H) View) (h : Kept machine journal_of state_of opening s) (id : ℕ) (v : View) → get_elem? s.views id ≡ some v → v.waits ≡ true → v.ticket ≡ h.serving → (j : ℕ) (u : View) → j ≢ id → get_elem? s.views j ≡ some u → u.holds ≡ false
   alone s h id v at waits mine j u far e =
       elim (cases_Bool u.holds) [
-        | inl held ↦ let t = (h.each j u e).turn held in absurd (far (h.queued j id u v e at t.0 waits (t.1 ∙ sym mine)))
+        | inl journaled ↦ let t = (h.each j u e).turn journaled in absurd (far (h.queued j id u v e at t.0 waits (t.1 ∙ sym mine)))
         | inr not ↦ not
       ]
 
@@ -419,13 +419,13 @@ module _ (machine : ServerState → Event → StepResult) {H : Type 0} (journal_
       let all = h.sums.shares ∙ sym whole in
       let still : total_of waiting s.views ≡ 0 = sym (own_part waiting s.views id v all (λ j u e. (let r = (h.each j u e).room in omega arith)) at) ∙ wait_0 v waits in
       let none : (j : ℕ) (u : View) → get_elem? s.views j ≡ some u → u.holds ≡ false = λ j u e. elim (cases_Bool u.holds) [
-        | inl held ↦ (let one = wait_1 u ((h.each j u e).turn held).0 in let up = sums_room (λ (_ : View). 0) waiting s.views (λ j u e. omega arith) j u e in absurd (omega arith))
+        | inl journaled ↦ (let one = wait_1 u ((h.each j u e).turn journaled).0 in let up = sums_room (λ (_ : View). 0) waiting s.views (λ j u e. omega arith) j u e in absurd (omega arith))
         | inr not ↦ not
       ] in
       let home = h.idle none in
       let at_home : get_elem? xs 0 ≡ some (Some home.0) = back 0 (Some home.0) (ap (λ hs. get_elem? hs 0) home.1) in
       record {
-        held = home.0;
+        journaled = home.0;
         journal = h.journal;
         value_is = some-injective value (Some home.0) (sym taken ∙ at_home);
         follows = home.2;

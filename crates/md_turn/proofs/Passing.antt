@@ -8,7 +8,7 @@ use Rattle.atomic_table.specs.Seated.{TableId}
 use Rattle.md_machine.specs.declared.Event.{Event}
 use Rattle.md_machine.specs.declared.Reply.{Reply}
 use Rattle.md_turn.specs.declared.journal.JournalEntry.{JournalEntry}
-use Rattle.md_turn.specs.declared.held.Held.{Held}
+use Rattle.md_turn.specs.declared.journaled.Journaled.{Journaled}
 use Rattle.md_turn.specs.declared.rule.View.{View}
 use Rattle.md_machine.specs.States.{State as ServerState}
 use Rattle.md_machine.specs.Steps.{step}
@@ -174,17 +174,17 @@ popped_is xs ys all taken r p e is whole =
     whole ∙ ap (λ (zs : List Known). zs ++ taken) f ∙ append_assoc ys (p ∷ []) taken
 
 module _ {C : Type 0} (state : C → ServerState) where
-  same_held : (a b : Held C) → Some a ≡ Some b → b ≡ a
-  same_held a b e = cc
+  same_journaled : (a b : Journaled C) → Some a ≡ Some b → b ≡ a
+  same_journaled a b e = cc
 
-  pub ended_one : (opening o : ServerState) (id : TableId) (views : List View) (v : View) (k : Known) (h : Held C) → Closes step journal_of (state_of state) opening v (Some h) → opening ≡ o → views ≡ v ∷ [] → known_of id (view_of views) ≡ k → Rises k.own → Ended o (k ∷ []) (state h.core) h.journal.items
+  pub ended_one : (opening o : ServerState) (id : TableId) (views : List View) (v : View) (k : Known) (h : Journaled C) → Closes step journal_of (state_of state) opening v (Some h) → opening ≡ o → views ≡ v ∷ [] → known_of id (view_of views) ≡ k → Rises k.own → Ended o (k ∷ []) (state h.core) h.journal.items
   ended_one opening o id views v k h x same is kn rises =
-      let js : List JournalEntry = journal_of x.held in
+      let js : List JournalEntry = journal_of x.journaled in
       let p : Known = known_of id v in
       let to : x.journal ≡ js = sym x.follows.0 in
       let known : p ≡ k = ap (λ (vs : List View). known_of id (view_of vs)) (sym is) ∙ kn in
       let counts : (i : ℕ) → total_of (λ (q : Known). times i q.own) (p ∷ []) ≡ once_below i (length js) = λ i. (let n : times i v.own ≡ once_below i (length js) = x.owned i ∙ ap (λ (es : List JournalEntry). once_below i (length es)) to in omega arith) in
-      let ended : Ended opening (p ∷ []) (state x.held.core) js = record {
+      let ended : Ended opening (p ∷ []) (state x.journaled.core) js = record {
         legal = legal_journal opening js (subst (Legal step 0 opening) to x.legal);
         state_is = x.follows.1 ∙ ap (after step opening) to ∙ last opening js;
         seen = All-cons (λ (q : Known). IsPrefix q.seen js) p [] (subst (IsPrefix v.seen) to x.seen) (All-nil (λ (q : Known). IsPrefix q.seen js));
@@ -194,5 +194,5 @@ module _ {C : Type 0} (state : C → ServerState) where
         one_owner = owners (p ∷ []) js counts;
       } in
       subst (λ (q : Known). Ended o (q ∷ []) (state h.core) h.journal.items) known
-      (subst (λ (y : Held C). Ended o (p ∷ []) (state y.core) (journal_of y)) (same_held h x.held x.value_is)
-      (subst (λ (n : ServerState). Ended n (p ∷ []) (state x.held.core) js) same ended))
+      (subst (λ (y : Journaled C). Ended o (p ∷ []) (state y.core) (journal_of y)) (same_journaled h x.journaled x.value_is)
+      (subst (λ (n : ServerState). Ended n (p ∷ []) (state x.journaled.core) js) same ended))

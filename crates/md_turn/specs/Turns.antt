@@ -117,10 +117,10 @@ module _ (machine : ServerState → Event → StepResult) {H : Type 0} (journal_
 
   -- what a seat with the whole share knows as the table is closed
   pub record Closes (v : View) (value : Option H) : Type 0 where
-    pub held : H
+    pub journaled : H
     pub journal : List JournalEntry
-    pub value_is : value ≡ Some held
-    pub follows : Follows journal held
+    pub value_is : value ≡ Some journaled
+    pub follows : Follows journal journaled
     pub legal : Legal machine 0 opening journal
     pub seen : IsPrefix v.seen journal
     pub own : All (Has v.seen) v.own

@@ -3,7 +3,7 @@ ghost use Rattle.std.specs.Prelude.{◌≡◌, All, Bool, List, Option, true};
 ghost use Rattle.atomic_table.specs.Table.{State};
 ghost use Rattle.md_machine.specs.States.{State as ServerState};
 ghost use Rattle.md_machine.specs.Steps.{step};
-ghost use Rattle.md_turn.specs.declared.held.Held.{Held};
+ghost use Rattle.md_turn.specs.declared.journaled.Journaled.{Journaled};
 ghost use Rattle.md_turn.specs.declared.journal.JournalEntry.{JournalEntry};
 ghost use Rattle.md_turn.specs.declared.rule.View.{View};
 ghost use Rattle.md_turn.specs.Acts.{journal_of, state_of};
@@ -11,7 +11,7 @@ ghost use Rattle.md_turn.specs.Passes.{Known, Ended};
 ghost use Rattle.md_turn.specs.Turns.{Kept};
 ghost use Rattle.md_turn.specs.Listed.{Listed};
 
-use crate::held::Core;
+use crate::journaled::Core;
 use crate::pass::Pass;
 use crate::turn::Turn;
 use std::marker::PhantomData;
@@ -19,7 +19,7 @@ use std::marker::PhantomData;
 /// At every moment, tickets, turns, the journal, what passes have seen and own, and their shares are as `Listed` says. It
 /// follows of the rule that each step keeps.
 pub fn rule_is_listed<C: Core>(_of: PhantomData<C>)
-    ensures { (opening : ServerState) (s : State (Option (Held C)) View) → Kept step journal_of (state_of C.state) opening s → Listed step journal_of (state_of C.state) opening s }
+    ensures { (opening : ServerState) (s : State (Option (Journaled C)) View) → Kept step journal_of (state_of C.state) opening s → Listed step journal_of (state_of C.state) opening s }
 {}
 
 /// What is true of each own entry of the passes that close a lock is true of the whole journal.

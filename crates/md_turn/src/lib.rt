@@ -11,7 +11,7 @@
 //! follows of it. Nothing is said of who is served when, nor that waiting ends.
 #![tactic(auto)]
 
-mod held;
+mod journaled;
 mod journal;
 pub mod laws;
 mod pass;
@@ -19,7 +19,7 @@ mod rule;
 mod steps;
 mod turn;
 
-pub use held::Core;
+pub use journaled::Core;
 pub use journal::JournalEntry;
 pub use pass::Pass;
 pub use turn::{Refused, Turn};

@@ -1,7 +1,7 @@
 //! The rule that the lock keeps, and the names of its steps.
 ghost use Rattle.std.specs.Prelude.{ℕ};
 
-use crate::held::{Core, Held};
+use crate::journaled::{Core, Journaled};
 use crate::journal::JournalEntry;
 use atomic_table::{Join, Play, Seat, Split, Table, TableRule};
 use std::alloc::Global;
@@ -33,7 +33,7 @@ pub struct Rule<C> {
     of: PhantomData<C>,
 }
 
-impl<C: Core> TableRule<Option<Held<C>>, View, Snapshot<C>> for Rule<C> {
+impl<C: Core> TableRule<Option<Journaled<C>>, View, Snapshot<C>> for Rule<C> {
     ghost use Rattle.std.specs.Prelude.{[]};
     ghost use Rattle.md_machine.specs.Steps.{step};
     ghost use Rattle.md_turn.specs.Turns.{Kept, resting, whole_share};
@@ -48,7 +48,7 @@ pub struct Draw<C> {
     of: PhantomData<C>,
 }
 
-impl<C: Core> Play<Option<Held<C>>, View> for Draw<C> {
+impl<C: Core> Play<Option<Journaled<C>>, View> for Draw<C> {
     ghost use Rattle.md_turn.specs.Turns.{Draws};
 
     ghost then = { Draws };
@@ -73,7 +73,7 @@ pub struct Look<C, O> {
     of: PhantomData<(C, O)>,
 }
 
-impl<C: Core, O: Opening> Play<Option<Held<C>>, View> for Look<C, O> {
+impl<C: Core, O: Opening> Play<Option<Journaled<C>>, View> for Look<C, O> {
     ghost use Rattle.md_machine.specs.Steps.{step};
     ghost use Rattle.md_turn.specs.Turns.{Looks};
 
@@ -85,7 +85,7 @@ pub struct Leave<C> {
     of: PhantomData<C>,
 }
 
-impl<C: Core> Play<Option<Held<C>>, View> for Leave<C> {
+impl<C: Core> Play<Option<Journaled<C>>, View> for Leave<C> {
     ghost use Rattle.md_turn.specs.Turns.{Leaves};
 
     ghost then = { Leaves (λ h. h.journal.items) };
@@ -96,7 +96,7 @@ pub struct Refuse<C> {
     of: PhantomData<C>,
 }
 
-impl<C: Core> Play<Option<Held<C>>, View> for Refuse<C> {
+impl<C: Core> Play<Option<Journaled<C>>, View> for Refuse<C> {
     ghost use Rattle.md_turn.specs.Turns.{Refuses};
 
     ghost then = { Refuses };
@@ -105,7 +105,7 @@ impl<C: Core> Play<Option<Held<C>>, View> for Refuse<C> {
 /// The word of the turn is read after a join, by a seat without a ticket.
 pub struct Compare;
 
-impl<C> Play<Option<Held<C>>, View> for Compare {
+impl<C> Play<Option<Journaled<C>>, View> for Compare {
     ghost use Rattle.md_turn.specs.Turns.{Compares};
 
     ghost then = { Compares };
@@ -144,6 +144,6 @@ impl Join<View> for Both {
     ghost spent = { spent_view };
 }
 
-pub type TurnTable<C> = Table<Option<Held<C>>, View, Snapshot<C>, Rule<C>, Global>;
+pub type TurnTable<C> = Table<Option<Journaled<C>>, View, Snapshot<C>, Rule<C>, Global>;
 
-pub type TurnSeat<C> = Seat<Option<Held<C>>, View>;
+pub type TurnSeat<C> = Seat<Option<Journaled<C>>, View>;

@@ -1,13 +1,13 @@
 //! The steps of the lock, by a seat.
 ghost use Rattle.std.specs.Prelude.{◌≡◌, ◌+◌, ◌-◌, ◌<◌, ◌≤◌, [], ◌∷◌, ◌++◌, length, IfOk, IfErr, true, false, Some};
 ghost use Rattle.md_turn.specs.declared.journal.JournalEntry.{JournalEntry};
-ghost use Rattle.md_turn.specs.declared.held.Held.{Held};
+ghost use Rattle.md_turn.specs.declared.journaled.Journaled.{Journaled};
 ghost use Rattle.md_machine.specs.Steps.{step};
 ghost use Rattle.md_turn.specs.Journal.{entry, after, IsPrefix, shorter, longer};
 ghost use Rattle.md_turn.specs.Turns.{view, resting, made, Takes, cut, cut_off, joined, whole_share, Closes};
 ghost use Rattle.md_turn.specs.Acts.{journal_of, state_of, Carries, Rests, Acted, Unacted};
 
-use crate::held::{Core, Held};
+use crate::journaled::{Core, Journaled};
 use crate::journal::JournalEntry;
 use crate::rule::{
     Amount, Both, Compare, Cut, Draw, Leave, Look, Opening, Refuse, TurnSeat, TurnTable,
@@ -64,7 +64,7 @@ fn await_turn<C: Core, O: Opening, R: Wait>(
 }
 
 // One act on what the seat has taken.
-fn act_held<C: Core, O: Opening>(
+fn act_journaled<C: Core, O: Opening>(
     turns: &TurnTable<C>,
     seat: &mut TurnSeat<C>,
     event: Event,
@@ -76,9 +76,9 @@ fn act_held<C: Core, O: Opening>(
     ensures acted { IfOk result (λ r. Carries C.state O.state (seat.old.me.0.seen ++ entry r.0 event r.1 ∷ []) seat.new.me.1 × (r.0 ≡ length seat.old.me.0.seen + 1) × (r.1 ≡ (step (after step O.state seat.old.me.0.seen) event).reply)) }
     ensures refused { IfErr result (λ e. (e ≡ event) × Carries C.state O.state seat.old.me.0.seen seat.new.me.1) }
 {
-    let mut held = turns.shared.exchange(seat, 0, None).unwrap();
-    let outcome = held.act(event);
-    drop(turns.shared.exchange(seat, 0, Some(held)));
+    let mut journaled = turns.shared.exchange(seat, 0, None).unwrap();
+    let outcome = journaled.act(event);
+    drop(turns.shared.exchange(seat, 0, Some(journaled)));
     outcome
 }
 
@@ -122,7 +122,7 @@ pub(crate) fn act_by<C: Core, O: Opening, R: Wait>(
 {
     let ticket = draw_ticket(turns, seat);
     await_turn::<C, O, R>(rt, turns, seat, ticket);
-    match act_held::<C, O>(turns, seat, event) {
+    match act_journaled::<C, O>(turns, seat, event) {
         Ok(answer) => {
             pass_on::<C, O>(turns, seat);
             Ok(answer)
@@ -163,14 +163,14 @@ pub(crate) fn join_by<C: Core>(turns: &TurnTable<C>, seat: &mut TurnSeat<C>, oth
     turns.shared.load::<Compare>(seat, 1);
 }
 
-pub(crate) fn close_by<C: Core>(turns: TurnTable<C>, seat: TurnSeat<C>) -> Held<C>
+pub(crate) fn close_by<C: Core>(turns: TurnTable<C>, seat: TurnSeat<C>) -> Journaled<C>
     requires table { (seat.table_id ≡ turns.shared.table_id) × (turns.shared.table_id.words ≡ 2) × (turns.shared.table_id.slots ≡ 1) }
     requires rests { Rests seat.me }
     requires whole { seat.me.0.share ≡ whole_share }
     ensures { Closes step journal_of (state_of C.state) (C.state turns.shared.key.value) seat.me.0 (Some result) }
 {
     let mut closed = turns.close_with(seat);
-    let held = closed.take(0).unwrap();
+    let journaled = closed.take(0).unwrap();
     closed.free();
-    held
+    journaled
 }

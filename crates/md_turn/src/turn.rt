@@ -1,5 +1,5 @@
 //! The lock, and its calls.
-use crate::held::{Core, Held};
+use crate::journaled::{Core, Journaled};
 use crate::journal::JournalEntry;
 use crate::pass::Pass;
 use crate::rule::TurnTable;
@@ -55,7 +55,7 @@ impl<C: Core> Turn<C> {
     {
         let key = Snapshot::of(&core);
         let mut slots = Vec::with_capacity(alloc, 1)?;
-        slots.push_reserved(Some(Held {
+        slots.push_reserved(Some(Journaled {
             alloc,
             core,
             journal: Vec::new(alloc),
@@ -144,7 +144,7 @@ impl<C: Core> Turn<C> {
         pass.own_are_seen();
         let Turn { table } = self;
         let Pass { badge, .. } = pass;
-        let Held { core, journal, .. } = close_by(table, badge.into_seat());
+        let Journaled { core, journal, .. } = close_by(table, badge.into_seat());
         (core, journal)
     }
 

@@ -3,7 +3,7 @@ ghost use Rattle.std.specs.Prelude.{◌≡◌};
 ghost use Rattle.md_words.specs.declared.command.WordsError.TheVariants.{Memory};
 
 use crate::Utf8;
-use md_value::{Items, Name, Path};
+use md_value::{PlainVec, Name, Path};
 use std::alloc::AllocError;
 
 /// What the words ask for.
@@ -38,12 +38,12 @@ pub enum Tool {
         /// What stands for an attribute that is absent.
         marker: Utf8,
         /// The attributes that are asked for, in the order of the words, or none where all are.
-        names: Items<Name>,
-        files: Items<Path>,
+        names: PlainVec<Name>,
+        files: PlainVec<Path>,
     },
     /// `mdimport`: the import of files and of folders.
     Import {
-        files: Items<Path>,
+        files: PlainVec<Path>,
     },
     /// `mdimport -L`: the importers.
     Importers,

@@ -4,7 +4,7 @@ ghost use Rattle.std.specs.List.{list_any};
 ghost use Rattle.md_words.specs.Words.{texts, path_of, paths_of, files_of, files_below_root, is_root};
 
 use crate::word::first_word;
-use md_value::{Items, Path, PathError};
+use md_value::{PlainVec, Path, PathError};
 use std::alloc::{AllocError, Global};
 
 /// The path that a word writes. It may be the root.
@@ -19,10 +19,10 @@ pub fn path_of(alloc: Global, word: &str) -> Result<Option<Path>, AllocError>
     }
 }
 
-fn paths_of(alloc: Global, words: &[String]) -> Result<Option<Items<Path>>, AllocError>
+fn paths_of(alloc: Global, words: &[String]) -> Result<Option<PlainVec<Path>>, AllocError>
     ensures { IfOk result (λ paths. paths ≡ paths_of (texts words.now)) }
 {
-    let mut paths = Items::new(alloc);
+    let mut paths = PlainVec::new(alloc);
     let mut rest = words;
     while let Some((word, after)) = first_word(rest) {
         let Some(path) = path_of(alloc, word)? else {
@@ -36,7 +36,7 @@ fn paths_of(alloc: Global, words: &[String]) -> Result<Option<Items<Path>>, Allo
 
 /// The paths of one file or more: `None` where there is no word, or one is no path.
 #[tactic(auto, unfolding(crate::specs::Words::files_of))]
-pub fn files_of(alloc: Global, words: &[String]) -> Result<Option<Items<Path>>, AllocError>
+pub fn files_of(alloc: Global, words: &[String]) -> Result<Option<PlainVec<Path>>, AllocError>
     ensures { IfOk result (λ files. files ≡ files_of (texts words.now)) }
 {
     if words.is_empty() {
@@ -51,7 +51,7 @@ fn has_root(paths: &[Path]) -> bool
     paths.iter().any(|path| path.is_root())
 }
 
-fn below_root(files: Items<Path>) -> Option<Items<Path>>
+fn below_root(files: PlainVec<Path>) -> Option<PlainVec<Path>>
     ensures { result ≡ (if list_any is_root files then None else Some files) }
 {
     if has_root(files.as_slice()) {
@@ -62,7 +62,7 @@ fn below_root(files: Items<Path>) -> Option<Items<Path>>
 
 /// The paths of one file or more, none of which is the root.
 #[tactic(auto, unfolding(crate::specs::Words::files_below_root))]
-pub fn files_below_root(alloc: Global, words: &[String]) -> Result<Option<Items<Path>>, AllocError>
+pub fn files_below_root(alloc: Global, words: &[String]) -> Result<Option<PlainVec<Path>>, AllocError>
     ensures { IfOk result (λ files. files ≡ files_below_root (texts words.now)) }
 {
     match files_of(alloc, words)? {

@@ -8,7 +8,7 @@ ghost use Rattle.md_words.specs.Options.{no_options, with_raw, joined, options_f
 use crate::Utf8;
 use crate::once::set_flag;
 use crate::word::{begins_with_dash, first_word};
-use md_value::{Items, Name, NameError};
+use md_value::{PlainVec, Name, NameError};
 use std::alloc::{AllocError, Global};
 
 /// What the options of `mdls` say.
@@ -16,7 +16,7 @@ use std::alloc::{AllocError, Global};
 pub struct Options {
     pub raw: bool,
     pub marker: Option<Utf8>,
-    pub names: Items<Name>,
+    pub names: PlainVec<Name>,
 }
 
 fn name_of(alloc: Global, word: &str) -> Result<Option<Name>, AllocError>
@@ -36,7 +36,7 @@ impl Options {
         Options {
             raw: false,
             marker: None,
-            names: Items::new(alloc),
+            names: PlainVec::new(alloc),
         }
     }
 

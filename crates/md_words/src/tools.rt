@@ -12,7 +12,7 @@ use crate::numbers::number_in;
 use crate::options::{Options, options_of};
 use crate::word::{begins_with_dash, first_word, spaced};
 use crate::{Mode, Tool, Utf8};
-use md_value::{Items, Path};
+use md_value::{PlainVec, Path};
 use std::alloc::{AllocError, Global};
 
 /// The most files that `gen` makes.
@@ -92,7 +92,7 @@ fn marker_of(alloc: Global, marker: Option<Utf8>) -> Result<Utf8, AllocError>
     }
 }
 
-fn shown(alloc: Global, options: Options, files: Items<Path>) -> Result<Tool, AllocError>
+fn shown(alloc: Global, options: Options, files: PlainVec<Path>) -> Result<Tool, AllocError>
     ensures offered { IfOk result (λ tool. is_offered tool ≡ true) }
     ensures value { IfOk result (λ tool. tool ≡ shown options files) }
 {

@@ -9,7 +9,7 @@ use md_machine::Event;
 use md_pool::{ClaimSeat, Claims};
 use md_source::Gate;
 use md_turn::{Core, Pass, Turn};
-use md_value::Items;
+use md_value::PlainVec;
 use std::alloc::Global;
 use std::sync::Wait;
 
@@ -17,7 +17,7 @@ use std::sync::Wait;
 #[derive(Drop)]
 pub struct Client {
     pub id: u8,
-    pub events: Items<Event>,
+    pub events: PlainVec<Event>,
 }
 
 /// What an actor is for.

@@ -7,7 +7,7 @@ use crate::act::act;
 use md_machine::Event;
 use md_source::Gate;
 use md_turn::{Core, Pass, Turn};
-use md_value::Items;
+use md_value::PlainVec;
 use std::alloc::AllocError;
 use std::sync::Wait;
 
@@ -20,7 +20,7 @@ pub(crate) fn serve<R: Wait, C: Core, G: Gate>(
     gate: &G,
     actor: u32,
     pass: &mut Pass,
-    events: Items<Event>,
+    events: PlainVec<Event>,
 ) -> Result<(), AllocError>
     requires turn { pass.old.id ≡ turn.now.id }
     requires room { made_by pass.old + length events ≤ pass.old.share }

@@ -9,7 +9,7 @@ mod order;
 mod steps;
 
 pub use laws::limits_are_standard;
-use md_value::{Attrs, Copied, Items, Path};
+use md_value::{Attrs, Copied, PlainVec, Path};
 pub use order::{NotShown, Order, SortKey};
 use std::alloc::{AllocError, Global};
 pub use steps::Steps;
@@ -32,10 +32,10 @@ pub enum Change {
 }
 
 /// Rows, seen as their list.
-pub type Rows = Items<Row>;
+pub type Rows = PlainVec<Row>;
 
 /// Paths, seen as their list.
-pub type Paths = Items<Path>;
+pub type Paths = PlainVec<Path>;
 
 /// The next hits of a query, as shown rows in path order.
 #[derive(Debug, Drop)]

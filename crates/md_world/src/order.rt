@@ -6,7 +6,7 @@ ghost use Rattle.md_value.specs.Attrs.{text_content};
 ghost use Rattle.md_world.specs.Orders.{names_content};
 
 use crate::TEXT_CONTENT;
-use md_value::{Copied, Items, Name};
+use md_value::{Copied, PlainVec, Name};
 use std::alloc::{AllocError, Global};
 use std::marker::Model;
 
@@ -22,7 +22,7 @@ pub struct SortKey {
 /// which names the text content.
 #[derive(Debug, Drop)]
 pub struct Order {
-    keys: Items<SortKey>,
+    keys: PlainVec<SortKey>,
 }
 
 impl Model for Order {
@@ -53,7 +53,7 @@ impl Order {
         ensures { result ≡ [] }
     {
         Order {
-            keys: Items::new(alloc),
+            keys: PlainVec::new(alloc),
         }
     }
 
@@ -66,7 +66,7 @@ impl Order {
             return Err(NotShown);
         }
         Ok(Order {
-            keys: Items::from_vec(keys),
+            keys: PlainVec::from_vec(keys),
         })
     }
 

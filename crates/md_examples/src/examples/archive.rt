@@ -1,5 +1,5 @@
 // The form of an example's file: a header, and sections below it, as in a `txtar` archive of Go.
-use crate::examples::fault::Fault;
+use crate::examples::error::ExampleError;
 use md_rows::unescape;
 use std::alloc::{AllocError, Global};
 
@@ -12,13 +12,13 @@ pub struct HeaderLine {
 
 impl HeaderLine {
     /// That the line is not well formed.
-    pub fn fault(&self, what: &'static str) -> Fault {
-        Fault::Line(self.number, what)
+    pub fn error(&self, what: &'static str) -> ExampleError {
+        ExampleError::Line(self.number, what)
     }
 
     /// The first word of a value, and what follows it.
-    pub fn two_words<'a>(&self, value: &'a str) -> Result<(&'a str, &'a str), Fault> {
-        value.split_once(' ').ok_or(self.fault("a word is missing"))
+    pub fn two_words<'a>(&self, value: &'a str) -> Result<(&'a str, &'a str), ExampleError> {
+        value.split_once(' ').ok_or(self.error("a word is missing"))
     }
 }
 
@@ -93,8 +93,8 @@ impl Section {
     }
 
     /// That the section is not well formed.
-    pub fn fault(&self, what: &'static str) -> Fault {
-        Fault::Line(self.number, what)
+    pub fn error(&self, what: &'static str) -> ExampleError {
+        ExampleError::Line(self.number, what)
     }
 
     /// Whether a name follows its kind.
@@ -103,17 +103,17 @@ impl Section {
     }
 
     /// The content.
-    pub fn bytes(&self, alloc: Global) -> Result<Vec<u8>, Fault> {
+    pub fn bytes(&self, alloc: Global) -> Result<Vec<u8>, ExampleError> {
         self.read(alloc, self.content.as_str())
     }
 
     /// The name in the heading.
-    pub fn name(&self, alloc: Global) -> Result<String, Fault> {
+    pub fn name(&self, alloc: Global) -> Result<String, ExampleError> {
         self.read_text(alloc, self.name.as_str())
     }
 
     /// The lines of the content.
-    pub fn lines(&self, alloc: Global) -> Result<Vec<String>, Fault> {
+    pub fn lines(&self, alloc: Global) -> Result<Vec<String>, ExampleError> {
         let mut lines = Vec::new(alloc);
         for line in self.content.split_inclusive('\n') {
             lines.push(self.read_text(alloc, without_line_feed(line))?)?;
@@ -122,21 +122,21 @@ impl Section {
     }
 
     // What a text of the section stands for.
-    fn read(&self, alloc: Global, text: &str) -> Result<Vec<u8>, Fault> {
+    fn read(&self, alloc: Global, text: &str) -> Result<Vec<u8>, ExampleError> {
         if !self.escaped {
             return Ok(Vec::from_slice(alloc, text.as_bytes())?);
         }
         match unescape(alloc, text.as_bytes())? {
             Some(bytes) => Ok(bytes),
-            None => Err(self.fault("an escape is not well formed")),
+            None => Err(self.error("an escape is not well formed")),
         }
     }
 
-    fn read_text(&self, alloc: Global, text: &str) -> Result<String, Fault> {
+    fn read_text(&self, alloc: Global, text: &str) -> Result<String, ExampleError> {
         let bytes = self.read(alloc, text)?;
         match String::from_utf8(bytes) {
             Ok(text) => Ok(text),
-            Err(_) => Err(self.fault("not UTF-8")),
+            Err(_) => Err(self.error("not UTF-8")),
         }
     }
 }

@@ -1,7 +1,7 @@
 // An example: what the program is given, and what is wanted of it.
 use crate::examples::archive::{Archive, Section};
 use crate::examples::comparing::Printed;
-use crate::examples::fault::Fault;
+use crate::examples::error::ExampleError;
 use crate::examples::files::{File, file_of, finish, push_numbered};
 use crate::examples::header::Settings;
 use std::alloc::Global;
@@ -29,7 +29,7 @@ struct Parts {
 
 impl Example {
     /// The example of a file's text.
-    pub fn read(alloc: Global, text: &str) -> Result<Example, Fault> {
+    pub fn read(alloc: Global, text: &str) -> Result<Example, ExampleError> {
         let archive = Archive::read(alloc, text)?;
         let mut settings = Settings::read(alloc, &archive.header)?;
         let mut parts = Parts::new();
@@ -58,9 +58,9 @@ impl Parts {
     }
 
     // Takes what a section says.
-    fn set(&mut self, alloc: Global, section: &Section) -> Result<(), Fault> {
+    fn set(&mut self, alloc: Global, section: &Section) -> Result<(), ExampleError> {
         if section.has_name() {
-            return Err(section.fault("no such section, or a name where none stands"));
+            return Err(section.error("no such section, or a name where none stands"));
         }
         match section.kind.as_str() {
             "words" => set_once(&mut self.words, section, section.lines(alloc)?),
@@ -68,7 +68,7 @@ impl Parts {
             "out" => set_once(&mut self.out, section, section.bytes(alloc)?),
             "err" => set_once(&mut self.err, section, section.bytes(alloc)?),
             "status" => set_once(&mut self.status, section, status_of(alloc, section)?),
-            _ => Err(section.fault("no such section")),
+            _ => Err(section.error("no such section")),
         }
     }
 
@@ -77,7 +77,7 @@ impl Parts {
         alloc: Global,
         settings: Settings,
         files: Vec<File>,
-    ) -> Result<Example, Fault> {
+    ) -> Result<Example, ExampleError> {
         let Parts {
             words,
             script,
@@ -86,7 +86,7 @@ impl Parts {
             status,
         } = self;
         let Some(words) = words else {
-            return Err(Fault::Line(1, "the section `words` is missing"));
+            return Err(ExampleError::Line(1, "the section `words` is missing"));
         };
         Ok(Example {
             settings,
@@ -102,21 +102,21 @@ impl Parts {
     }
 }
 
-fn set_once<T: Drop>(place: &mut Option<T>, section: &Section, value: T) -> Result<(), Fault> {
+fn set_once<T: Drop>(place: &mut Option<T>, section: &Section, value: T) -> Result<(), ExampleError> {
     if place.is_some() {
-        return Err(section.fault("the section stands twice"));
+        return Err(section.error("the section stands twice"));
     }
     *place = Some(value);
     Ok(())
 }
 
-fn status_of(alloc: Global, section: &Section) -> Result<u8, Fault> {
+fn status_of(alloc: Global, section: &Section) -> Result<u8, ExampleError> {
     let bytes = section.bytes(alloc)?;
     match std::str::from_utf8(&bytes) {
         Ok(text) => match text.trim().parse() {
             Ok(status) => Ok(status),
-            Err(_) => Err(section.fault("not a status")),
+            Err(_) => Err(section.error("not a status")),
         },
-        Err(_) => Err(section.fault("not a status")),
+        Err(_) => Err(section.error("not a status")),
     }
 }

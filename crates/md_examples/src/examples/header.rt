@@ -1,6 +1,6 @@
 // The settings of an example's header.
 use crate::examples::archive::HeaderLine;
-use crate::examples::fault::Fault;
+use crate::examples::error::ExampleError;
 use md_value::{HIGH, LOW, Path, PathError};
 use std::alloc::{AllocError, Global};
 
@@ -53,7 +53,7 @@ pub struct Settings {
 }
 
 impl Settings {
-    pub fn read(alloc: Global, header: &[HeaderLine]) -> Result<Settings, Fault> {
+    pub fn read(alloc: Global, header: &[HeaderLine]) -> Result<Settings, ExampleError> {
         let mut settings = Settings::new(alloc)?;
         let mut commented = false;
         for line in header {
@@ -64,13 +64,13 @@ impl Settings {
             }
         }
         if !commented {
-            return Err(Fault::Line(1, "no comment says what it shows"));
+            return Err(ExampleError::Line(1, "no comment says what it shows"));
         }
         Ok(settings)
     }
 
     // What no header says.
-    fn new(alloc: Global) -> Result<Settings, Fault> {
+    fn new(alloc: Global) -> Result<Settings, ExampleError> {
         let folders = vec![in alloc; Path::root(alloc)]?;
         Ok(Settings {
             clock: CLOCK,
@@ -92,7 +92,7 @@ impl Settings {
     }
 
     // Sets what a line says.
-    fn set(&mut self, alloc: Global, line: &HeaderLine) -> Result<(), Fault> {
+    fn set(&mut self, alloc: Global, line: &HeaderLine) -> Result<(), ExampleError> {
         let (name, value) = line
             .text
             .split_once(' ')
@@ -117,23 +117,23 @@ impl Settings {
             }
             "fails" => self.fails.set(line, value)?,
             "takes" | "gives" => self.set_piece(line, name, value)?,
-            _ => return Err(line.fault("no such setting")),
+            _ => return Err(line.error("no such setting")),
         }
         Ok(())
     }
 
     // Sets how many bytes a call of an object takes or gives.
-    fn set_piece(&mut self, line: &HeaderLine, name: &str, value: &str) -> Result<(), Fault> {
+    fn set_piece(&mut self, line: &HeaderLine, name: &str, value: &str) -> Result<(), ExampleError> {
         let (object, piece) = line.two_words(value)?;
         let piece = match piece.parse::<u32>() {
             Ok(piece) if piece > 0 => piece as usize,
-            _ => return Err(line.fault("not a number from 1")),
+            _ => return Err(line.error("not a number from 1")),
         };
         match (name, object) {
             ("takes", "out") => self.out_takes = piece,
             ("takes", "err") => self.err_takes = piece,
             ("gives", "script") => self.script_gives = piece,
-            _ => return Err(line.fault("no such object")),
+            _ => return Err(line.error("no such object")),
         }
         Ok(())
     }
@@ -141,7 +141,7 @@ impl Settings {
 
 impl Fails {
     // Sets which calls of an object fail: `OBJECT N N ..`, or `out each` and `err each`.
-    fn set(&mut self, line: &HeaderLine, value: &str) -> Result<(), Fault> {
+    fn set(&mut self, line: &HeaderLine, value: &str) -> Result<(), ExampleError> {
         let (object, calls) = line.two_words(value)?;
         let list = match object {
             "tree" => &mut self.tree,
@@ -157,7 +157,7 @@ impl Fails {
             }
             "out" => &mut self.out,
             "err" => &mut self.err,
-            _ => return Err(line.fault("no such object")),
+            _ => return Err(line.error("no such object")),
         };
         for call in calls.split(' ') {
             list.push(number_of(line, call)?)?;
@@ -167,7 +167,7 @@ impl Fails {
 }
 
 /// Adds the folders that a path stands in. Where one is there already, so are those that it stands in.
-pub fn push_folders(alloc: Global, path: &str, folders: &mut Vec<Path>) -> Result<(), Fault> {
+pub fn push_folders(alloc: Global, path: &str, folders: &mut Vec<Path>) -> Result<(), ExampleError> {
     let mut rest = path;
     for _ in 0..path.len() {
         match rest.rsplit_once('/') {
@@ -186,7 +186,7 @@ fn setting_of_file<T: Drop>(
     line: &HeaderLine,
     path: &str,
     value: T,
-) -> Result<FileSetting<T>, Fault> {
+) -> Result<FileSetting<T>, ExampleError> {
     Ok(FileSetting {
         line: line.number,
         path: path_of(alloc, line, path)?,
@@ -194,25 +194,25 @@ fn setting_of_file<T: Drop>(
     })
 }
 
-fn path_of(alloc: Global, line: &HeaderLine, text: &str) -> Result<Path, Fault> {
+fn path_of(alloc: Global, line: &HeaderLine, text: &str) -> Result<Path, ExampleError> {
     match Path::read(alloc, text) {
         Ok(path) => Ok(path),
-        Err(PathError::Bad) => Err(line.fault("not a path")),
-        Err(PathError::Memory) => Err(Fault::from(AllocError)),
+        Err(PathError::Bad) => Err(line.error("not a path")),
+        Err(PathError::Memory) => Err(ExampleError::from(AllocError)),
     }
 }
 
-fn number_of(line: &HeaderLine, text: &str) -> Result<u64, Fault> {
+fn number_of(line: &HeaderLine, text: &str) -> Result<u64, ExampleError> {
     match text.parse() {
         Ok(number) => Ok(number),
-        Err(_) => Err(line.fault("not a number")),
+        Err(_) => Err(line.error("not a number")),
     }
 }
 
 // A moment in seconds since 1970 in UTC.
-fn moment_of(line: &HeaderLine, text: &str) -> Result<i64, Fault> {
+fn moment_of(line: &HeaderLine, text: &str) -> Result<i64, ExampleError> {
     match text.parse::<i64>() {
         Ok(moment) if LOW <= moment && moment <= HIGH => Ok(moment),
-        _ => Err(line.fault("not a moment of the years 1 to 9999")),
+        _ => Err(line.error("not a moment of the years 1 to 9999")),
     }
 }

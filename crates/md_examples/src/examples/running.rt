@@ -1,7 +1,7 @@
 // Runs of the top call over objects in memory.
 use crate::examples::comparing::Printed;
 use crate::examples::example::Example;
-use crate::examples::fault::Fault;
+use crate::examples::error::ExampleError;
 use crate::examples::header::Stream;
 use md_source::{
     Clock, MemoryClock, MemorySink, MemorySource, MemoryTree, Sink, Source, Tree, is_content,
@@ -12,7 +12,7 @@ use std::alloc::Global;
 use std::thread::Threads;
 
 /// Runs an example, and says where it differs from what is wanted.
-pub fn check<R: Threads + Sync>(rt: &R, alloc: Global, text: &str) -> Result<Vec<String>, Fault> {
+pub fn check<R: Threads + Sync>(rt: &R, alloc: Global, text: &str) -> Result<Vec<String>, ExampleError> {
     let example = Example::read(alloc, text)?;
     match example.settings.fails.each {
         None => differences(rt, alloc, example),
@@ -24,7 +24,7 @@ fn differences<R: Threads + Sync>(
     rt: &R,
     alloc: Global,
     example: Example,
-) -> Result<Vec<String>, Fault> {
+) -> Result<Vec<String>, ExampleError> {
     let (got, wanted) = ran(rt, alloc, example)?;
     Ok(wanted.differences(alloc, &got)?)
 }
@@ -36,7 +36,7 @@ fn check_each<R: Threads + Sync>(
     text: &str,
     stream: Stream,
     calls: usize,
-) -> Result<Vec<String>, Fault> {
+) -> Result<Vec<String>, ExampleError> {
     let mut lines = Vec::new(alloc);
     for call in 0..=calls {
         let example = Example::read(alloc, text)?.failing_in(stream, call)?;
@@ -58,7 +58,7 @@ impl Example {
     }
 
     // The example whose stream fails in this call: it has taken what the calls before it took, and nothing is printed after.
-    fn failing_in(self, stream: Stream, call: usize) -> Result<Example, Fault> {
+    fn failing_in(self, stream: Stream, call: usize) -> Result<Example, ExampleError> {
         let mut example = self;
         let wanted = &mut example.wanted;
         match stream {
@@ -89,7 +89,7 @@ fn ran<R: Threads + Sync>(
     rt: &R,
     alloc: Global,
     example: Example,
-) -> Result<(Printed, Printed), Fault> {
+) -> Result<(Printed, Printed), ExampleError> {
     let Example {
         settings,
         words,
@@ -99,7 +99,7 @@ fn ran<R: Threads + Sync>(
     } = example;
     let fails = settings.fails;
     if !is_content(alloc, &settings.folders, &files) {
-        return Err(Fault::Tree);
+        return Err(ExampleError::Tree);
     }
     let mut tree = MemoryTree::new(settings.folders, files, fails.tree);
     let mut source = MemorySource::new(script, settings.script_gives.max(1), fails.script);

@@ -5,7 +5,7 @@ use Rattle.std.proofs.lemmas.Result.{IfOk-weaker}
 use Rattle.md_match.specs.Candidates.{smaller, smallest, union}
 use Rattle.md_index.specs.Indexed.{lists}
 use Rattle.md_plan.specs.Plans.{plan_set}
-use Rattle.md_plan.specs.Found.{is_in, places_of, size_of, IsFound}
+use Rattle.md_plan.specs.FoundPlaces.{is_in, places_of, size_of, IsFound}
 use Rattle.md_plan.proofs.Trees.{plan_set-All, plan_set-Probe, plan_set-Least, plan_set-Union}
 use Rattle.md_plan.proofs.Sets.{least_none, least_begun, least_more, least_end, smaller_places, union_more, union_over, union_end, in_rows}
 use Rattle.md_plan.proofs.+found.Goals as goal

@@ -5,7 +5,7 @@ use Rattle.md_world.specs.declared.Row.{Row}
 use Rattle.md_match.specs.Candidates.{RowSet, smallest_from, smallest, union}
 use Rattle.md_index.specs.Indexed.{Holds, lists}
 use Rattle.md_plan.specs.Plans.{plan_set}
-use Rattle.md_plan.specs.Found.{is_in, places_of, size_of, AreAll, IsFound}
+use Rattle.md_plan.specs.FoundPlaces.{is_in, places_of, size_of, AreAll, IsFound}
 use Rattle.md_plan.proofs.+found.Given as goal
 
 -- the best so far is that of some set, from which the others lead to the smallest

@@ -1,4 +1,4 @@
-use Rattle.md_expr.proofs.Outcomes.{read_back}
+use Rattle.md_expr.proofs.Verdicts.{read_back}
 use Rattle.md_expr.proofs.reading.printed_is_read.Goals as goal
 
 pub returns : goal.returns

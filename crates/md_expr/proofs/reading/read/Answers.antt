@@ -3,7 +3,7 @@ use Rattle.md_expr_tree.specs.declared.token.Token.{Token}
 use Rattle.md_expr_parse.specs.Reading.{Reading}
 use Rattle.md_expr_parse.specs.declared.read.ReadError.TheVariants.{TooLong, NotExpression}
 use Rattle.md_expr.proofs.Answered.{Only, answered, well}
-use Rattle.md_expr.proofs.Outcomes.{is_outcome}
+use Rattle.md_expr.proofs.Verdicts.{is_verdict}
 use Rattle.md_expr.proofs.reading.read.Goals as goal
 
 pub returns-clause-answer : goal.returns-clause-answer
@@ -16,11 +16,11 @@ returns-clause-answer c =
 pub returns-clause-well_made : goal.returns-clause-well_made
 returns-clause-well_made c = well c.from.result.items c.read.result c.read.ensures
 
-pub returns-clause-outcome : goal.returns-clause-outcome
-returns-clause-outcome c = is_outcome c.args.text.now c.read.result (returns-clause-answer c)
+pub returns-clause-verdict : goal.returns-clause-verdict
+returns-clause-verdict c = is_verdict c.args.text.now c.read.result (returns-clause-answer c)
 
-pub returns-then-text-gt-MOST_BYTES-clause-outcome : goal.returns-then-text-gt-MOST_BYTES-clause-outcome
-returns-then-text-gt-MOST_BYTES-clause-outcome c = is_outcome c.args.text.now (Err TooLong) (search rules)
+pub returns-then-text-gt-MOST_BYTES-clause-verdict : goal.returns-then-text-gt-MOST_BYTES-clause-verdict
+returns-then-text-gt-MOST_BYTES-clause-verdict c = is_verdict c.args.text.now (Err TooLong) (search rules)
 
-pub returns-in_default-clause-outcome : goal.returns-in_default-clause-outcome
-returns-in_default-clause-outcome c = is_outcome c.args.text.now (Err NotExpression) (search rules)
+pub returns-in_default-clause-verdict : goal.returns-in_default-clause-verdict
+returns-in_default-clause-verdict c = is_verdict c.args.text.now (Err NotExpression) (search rules)

@@ -1,6 +1,6 @@
 use Rattle.std.proofs.Common.{FitsSigned, w32, rules}
 use Rattle.std.proofs.lemmas.Int.{to_z-of_z}
-use Rattle.md_files.specs.Answers.{IsPrefix}
+use Rattle.md_files.specs.FileAnswers.{IsPrefix}
 use Rattle.md_files.proofs.Answering.{ok_then, gives_read}
 use Rattle.md_files.proofs.asking.read_file.Goals as goal
 

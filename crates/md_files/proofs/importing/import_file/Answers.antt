@@ -1,5 +1,5 @@
 use Rattle.std.proofs.Common.{[], ◌∷◌}
-use Rattle.md_files.specs.Answers.{IsRead}
+use Rattle.md_files.specs.FileAnswers.{IsRead}
 use Rattle.md_files.proofs.Turns.{none_so_far, one_so_far}
 use Rattle.md_files.proofs.importing.import_file.Goals as goal
 

@@ -2,7 +2,7 @@ use Rattle.std.proofs.Common.{◌∷◌, ◌++◌, [], ◌+◌, ◌∙◌, take,
 use Rattle.std.proofs.lemmas.Int.{to_z-of_z}
 use Rattle.std.proofs.lemmas.List.{take_more}
 use Rattle.md_source.specs.declared.tree.Entry.{Entry}
-use Rattle.md_files.specs.Answers.{IsRead, Gives}
+use Rattle.md_files.specs.FileAnswers.{IsRead, Gives}
 use Rattle.md_files.specs.Additions.{CountsFiles, noted}
 use Rattle.md_files.specs.Findings.Finding.{listed}
 use Rattle.md_files.specs.Reports.{FileReport}
@@ -15,9 +15,9 @@ loop-entry-preserved g c =
     let fits : FitsSigned w32 c.args.offset = search rules in
     let l = c.loop-entry in
     let known = g.T.Tree.content c.args.tree.now in
-    let before = g.T.Tree.faults c.args.tree.now in
-    let between = g.T.Tree.faults l.tree in
-    let now = g.T.Tree.faults c.read_file.new.tree in
+    let before = g.T.Tree.failures c.args.tree.now in
+    let between = g.T.Tree.failures l.tree in
+    let now = g.T.Tree.failures c.read_file.new.tree in
     let entries = c.args.entries.now in
     let entry = c.entry-item.result in
     let given = c.in_ok-asked.asked in

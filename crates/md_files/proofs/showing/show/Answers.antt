@@ -2,7 +2,7 @@ use Rattle.std.proofs.Common.{◌≡◌, ◌∷◌, ◌++◌, [], ◌+◌, ◌�
 use Rattle.std.proofs.lemmas.Int.{to_z-of_z}
 use Rattle.std.proofs.lemmas.List.{take_all, take_more}
 use Rattle.md_value.specs.Values.{PathBytes}
-use Rattle.md_files.specs.Answers.{IsAsked, Gives}
+use Rattle.md_files.specs.FileAnswers.{IsAsked, Gives}
 use Rattle.md_files.specs.Additions.{noted}
 use Rattle.md_files.specs.Findings.Finding.{named}
 use Rattle.md_files.specs.Reports.{FileReport}
@@ -16,9 +16,9 @@ loop-path-preserved g c =
     let fits : FitsSigned w32 c.args.offset = search rules in
     let l = c.loop-path in
     let known = g.T.Tree.content c.args.tree.now in
-    let before = g.T.Tree.faults c.args.tree.now in
-    let between = g.T.Tree.faults l.tree in
-    let now = g.T.Tree.faults c.ask_file.new.tree in
+    let before = g.T.Tree.failures c.args.tree.now in
+    let between = g.T.Tree.failures l.tree in
+    let now = g.T.Tree.failures c.ask_file.new.tree in
     let paths = c.args.files.now in
     let path = c.path-item.result in
     let given = c.in_ok-asked.asked in

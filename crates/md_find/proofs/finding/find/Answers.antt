@@ -8,7 +8,7 @@ use Rattle.md_machine.specs.Answers.{spec_of}
 use Rattle.md_machine.specs.Answers.{no_batch}
 use Rattle.md_files.proofs.Answering.{ok_then}
 use Rattle.md_find.specs.Finds.{misdates, query_of}
-use Rattle.md_find.specs.Folders.IsHeldSoFar.{without_fault}
+use Rattle.md_find.specs.Folders.IsFolderSoFar.{without_failure}
 use Rattle.md_find.proofs.Below.{finds_below}
 use Rattle.md_find.proofs.Causes.{finds_cause, finds_absent, finds_complete}
 use Rattle.md_find.proofs.finding.find.Goals as goal
@@ -48,4 +48,4 @@ returns-in-Ok-clause-so_far g c =
     rw (sym scope) c.find_below.ensures.so_far
 
 pub returns-in-Err-clause-so_far : goal.returns-in-Err-clause-so_far
-returns-in-Err-clause-so_far g c = without_fault refl
+returns-in-Err-clause-so_far g c = without_failure refl

@@ -1,6 +1,6 @@
 use Rattle.std.proofs.Common.{◌≡◌, refl, rules, FitsSigned, w32, w64}
 use Rattle.std.proofs.lemmas.Int.{to_z-of_z}
-use Rattle.md_files.specs.Answers.{IsRead}
+use Rattle.md_files.specs.FileAnswers.{IsRead}
 use Rattle.md_files.proofs.Answering.{ok_then}
 use Rattle.md_files.proofs.Turns.{none_so_far}
 use Rattle.md_machine.specs.Answers.{condition_of}

@@ -1,9 +1,9 @@
 use Rattle.std.proofs.Common.{length, refl, ap, sym, arith, Err}
-use Rattle.md_files.specs.Answers.{IsRead, InTurnSoFar}
+use Rattle.md_files.specs.FileAnswers.{IsRead, InTurnSoFar}
 use Rattle.md_files.specs.Folders.{IsListed, AreRead}
-use Rattle.md_find.specs.declared.finding.SearchResult.TheVariants.{Report}
+use Rattle.md_find.specs.declared.finding.SearchResult.TheVariants.{Done}
 use Rattle.md_find.specs.Folders.{files, nothing, full}
-use Rattle.md_find.specs.Folders.IsHeldSoFar.{without_fault, in_listing, in_files}
+use Rattle.md_find.specs.Folders.IsFolderSoFar.{without_failure, in_listing, in_files}
 use Rattle.md_find.proofs.Below.{too_many}
 use Rattle.md_find.proofs.finding.find_below.Goals as goal
 
@@ -12,7 +12,7 @@ returns-then-len-gt-MOST_FILES-clause-finds g c =
     let known = g.T.Tree.content c.args.tree.now in
     record {
       folder = full;
-      held = (c.in-Ok.ensures.cause, too_many known c.args.spec.scope c.in-Ok.entries.items c.in-Ok.ensures.listed (omega (arith, c.if-len-gt-MOST_FILES.true, c.len.ensures)));
+      is_folder = (c.in-Ok.ensures.cause, too_many known c.args.spec.scope c.in-Ok.entries.items c.in-Ok.ensures.listed (omega (arith, c.if-len-gt-MOST_FILES.true, c.len.ensures)));
       is = refl;
     }
 
@@ -22,16 +22,16 @@ find_among-requires-after_bounds g c = λ κs bounds. rw c.deref.ensures.value c
 pub returns-in-Ok-clause-finds : goal.returns-in-Ok-clause-finds
 returns-in-Ok-clause-finds g c =
     let known = g.T.Tree.content c.args.tree.now in
-    let before = g.T.Tree.faults c.args.tree.now in
-    let now = g.T.Tree.faults c.find_among.new.tree in
+    let before = g.T.Tree.failures c.args.tree.now in
+    let now = g.T.Tree.failures c.find_among.new.tree in
     let entries = c.deref.result.now in
     let among = c.in_ok-report-in-Ok.ensures.found in
     let listed : IsListed known c.args.spec.scope entries = rw c.deref.ensures.value c.in-Ok.ensures.listed in
     let asked : AreRead known before now entries among.answers = rw (sym c.in-Ok.ensures.content, sym c.in-Ok.ensures.cause) among.asked in
     record {
       folder = files entries among.answers;
-      held = (listed, omega (arith, c.if-len-gt-MOST_FILES.false, c.len.ensures, ap length c.deref.ensures.value), asked);
-      is = ap Report among.is;
+      is_folder = (listed, omega (arith, c.if-len-gt-MOST_FILES.false, c.len.ensures, ap length c.deref.ensures.value), asked);
+      is = ap Done among.is;
     }
 
 pub returns-in-Err-Absent-clause-finds : goal.returns-in-Err-Absent-clause-finds
@@ -39,18 +39,18 @@ returns-in-Err-Absent-clause-finds g c =
     let is = c.in-Err-Absent.field-0-is in
     record {
       folder = nothing;
-      held = (rw is at c.in-Err-Absent.ensures.cause, c.in-Err-Absent.ensures.absent (ap Err is));
-      is = ap Report c.in_ok-absent-in-Err-Absent.ensures;
+      is_folder = (rw is at c.in-Err-Absent.ensures.cause, c.in-Err-Absent.ensures.absent (ap Err is));
+      is = ap Done c.in_ok-absent-in-Err-Absent.ensures;
     }
 
 pub returns-then-len-gt-MOST_FILES-clause-so_far : goal.returns-then-len-gt-MOST_FILES-clause-so_far
-returns-then-len-gt-MOST_FILES-clause-so_far g c = without_fault c.in-Ok.ensures.cause
+returns-then-len-gt-MOST_FILES-clause-so_far g c = without_failure c.in-Ok.ensures.cause
 
 pub returns-in_err-report-in-Ok-clause-so_far : goal.returns-in_err-report-in-Ok-clause-so_far
 returns-in_err-report-in-Ok-clause-so_far g c =
     let known = g.T.Tree.content c.args.tree.now in
-    let before = g.T.Tree.faults c.args.tree.now in
-    let now = g.T.Tree.faults c.find_among.new.tree in
+    let before = g.T.Tree.failures c.args.tree.now in
+    let now = g.T.Tree.failures c.find_among.new.tree in
     let entries = c.deref.result.now in
     let listed : IsListed known c.args.spec.scope entries = rw c.deref.ensures.value c.in-Ok.ensures.listed in
     let asked : InTurnSoFar (IsRead known) before now entries = rw (sym c.in-Ok.ensures.content, sym c.in-Ok.ensures.cause) c.in_err-report-in-Ok.ensures.so_far in
@@ -59,8 +59,8 @@ returns-in_err-report-in-Ok-clause-so_far g c =
 pub returns-in-Ok-clause-so_far : goal.returns-in-Ok-clause-so_far
 returns-in-Ok-clause-so_far g c =
     let known = g.T.Tree.content c.args.tree.now in
-    let before = g.T.Tree.faults c.args.tree.now in
-    let now = g.T.Tree.faults c.find_among.new.tree in
+    let before = g.T.Tree.failures c.args.tree.now in
+    let now = g.T.Tree.failures c.find_among.new.tree in
     let entries = c.deref.result.now in
     let listed : IsListed known c.args.spec.scope entries = rw c.deref.ensures.value c.in-Ok.ensures.listed in
     let asked : InTurnSoFar (IsRead known) before now entries = rw (sym c.in-Ok.ensures.content, sym c.in-Ok.ensures.cause) c.in_ok-report-in-Ok.ensures.so_far in
@@ -69,12 +69,12 @@ returns-in-Ok-clause-so_far g c =
 pub returns-in_err-absent-in-Err-Absent-clause-so_far : goal.returns-in_err-absent-in-Err-Absent-clause-so_far
 returns-in_err-absent-in-Err-Absent-clause-so_far g c =
     let is = c.in-Err-Absent.field-0-is in
-    without_fault (rw is at c.in-Err-Absent.ensures.cause)
+    without_failure (rw is at c.in-Err-Absent.ensures.cause)
 
 pub returns-in-Err-Absent-clause-so_far : goal.returns-in-Err-Absent-clause-so_far
 returns-in-Err-Absent-clause-so_far g c =
     let is = c.in-Err-Absent.field-0-is in
-    without_fault (rw is at c.in-Err-Absent.ensures.cause)
+    without_failure (rw is at c.in-Err-Absent.ensures.cause)
 
 pub returns-in_err-unlisted-in-Err-Failed-clause-so_far : goal.returns-in_err-unlisted-in-Err-Failed-clause-so_far
 returns-in_err-unlisted-in-Err-Failed-clause-so_far g c =

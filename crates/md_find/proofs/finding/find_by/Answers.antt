@@ -4,7 +4,7 @@ use Rattle.std.proofs.lemmas.List.{nil_from_length}
 use Rattle.std.specs.List.{filter_map}
 use Rattle.md_value.specs.Values.{PathBytes, IsMoment}
 use Rattle.md_source.specs.declared.tree.Entry.{Entry}
-use Rattle.md_files.specs.Answers.{IsRead, InTurnSoFar}
+use Rattle.md_files.specs.FileAnswers.{IsRead, InTurnSoFar}
 use Rattle.md_files.specs.Folders.{AreRead}
 use Rattle.md_find.specs.declared.testing.SeenFile.{SeenFile}
 use Rattle.md_find.specs.Files.{answers_of, entries_of, seen_file, hit_of, reason_of}
@@ -33,9 +33,9 @@ loop-rest-preserved g c =
     let l = c.loop-rest in
     let so = l.invariant in
     let known = g.T.Tree.content c.args.tree.now in
-    let was = g.T.Tree.faults c.args.tree.now in
-    let between = g.T.Tree.faults l.tree in
-    let now = g.T.Tree.faults c.read_files.new.tree in
+    let was = g.T.Tree.failures c.args.tree.now in
+    let between = g.T.Tree.failures l.tree in
+    let now = g.T.Tree.failures c.read_files.new.tree in
     let condition = c.args.filter.now in
     let files = c.in_ok-files.files.items in
     let batch = c.first_batch.result.0.now in
@@ -61,8 +61,8 @@ returns-clause-found g c =
     let all : so.0 ≡ c.args.entries.now = sym (append-nil so.0) ∙ ap (λ (left : List Entry). so.0 ++ left) (sym none) ∙ so.1 in
     let text : string_bytes c.in_ok-text.text ≡ found_text c.args.output c.loop-rest.hits.items = c.in_ok-text.ensures ∙ ap (λ (paths : List PathBytes). found_text c.args.output paths) c.as_slice.ensures.value in
     let known = g.T.Tree.content c.args.tree.now in
-    let was = g.T.Tree.faults c.args.tree.now in
-    let now = g.T.Tree.faults c.loop-rest.tree in
+    let was = g.T.Tree.failures c.args.tree.now in
+    let now = g.T.Tree.failures c.loop-rest.tree in
     found_by known was now c.args.output c.args.entries.now c.args.filter.now c.loop-rest.report c.push_out.new.self c.loop-rest.hits.items (rw (sym all) so.2) (string_bytes c.in_ok-text.text) text
     (c.in_ok-push_out.ensures ∙ ap (λ t. record c.loop-rest.report { out = c.loop-rest.report.out ++ t }) c.as_str.ensures.value)
 
@@ -70,8 +70,8 @@ pub returns-in_err-files-clause-so_far : goal.returns-in_err-files-clause-so_far
 returns-in_err-files-clause-so_far g c =
     let so = c.loop-rest.invariant in
     let known = g.T.Tree.content c.args.tree.now in
-    let between = g.T.Tree.faults c.loop-rest.tree in
-    let now = g.T.Tree.faults c.read_files.new.tree in
+    let between = g.T.Tree.failures c.loop-rest.tree in
+    let now = g.T.Tree.failures c.read_files.new.tree in
     let batch = c.first_batch.result.0.now in
     let read : InTurnSoFar (IsRead known) between now batch = rw (sym so.3) c.in_err-files.ensures.so_far in
     so_far_join (IsRead known) between _ now so.0 so.2.answers batch c.first_batch.result.1.now c.args.entries.now so.2.asked read
@@ -81,8 +81,8 @@ pub returns-in_err-files-2-clause-so_far : goal.returns-in_err-files-2-clause-so
 returns-in_err-files-2-clause-so_far g c =
     let so = c.loop-rest.invariant in
     let known = g.T.Tree.content c.args.tree.now in
-    let between = g.T.Tree.faults c.loop-rest.tree in
-    let now = g.T.Tree.faults c.read_files.new.tree in
+    let between = g.T.Tree.failures c.loop-rest.tree in
+    let now = g.T.Tree.failures c.read_files.new.tree in
     let batch = c.first_batch.result.0.now in
     let read : InTurnSoFar (IsRead known) between now batch = rw (sym so.3) c.in_ok-files.ensures.so_far in
     so_far_join (IsRead known) between _ now so.0 so.2.answers batch c.first_batch.result.1.now c.args.entries.now so.2.asked read
@@ -92,8 +92,8 @@ pub returns-in_err-note-clause-so_far : goal.returns-in_err-note-clause-so_far
 returns-in_err-note-clause-so_far g c =
     let so = c.loop-rest.invariant in
     let known = g.T.Tree.content c.args.tree.now in
-    let between = g.T.Tree.faults c.loop-rest.tree in
-    let now = g.T.Tree.faults c.read_files.new.tree in
+    let between = g.T.Tree.failures c.loop-rest.tree in
+    let now = g.T.Tree.failures c.read_files.new.tree in
     let batch = c.first_batch.result.0.now in
     let read : InTurnSoFar (IsRead known) between now batch = rw (sym so.3) c.in_ok-files.ensures.so_far in
     so_far_join (IsRead known) between _ now so.0 so.2.answers batch c.first_batch.result.1.now c.args.entries.now so.2.asked read
@@ -103,8 +103,8 @@ pub returns-in_err-keep-clause-so_far : goal.returns-in_err-keep-clause-so_far
 returns-in_err-keep-clause-so_far g c =
     let so = c.loop-rest.invariant in
     let known = g.T.Tree.content c.args.tree.now in
-    let between = g.T.Tree.faults c.loop-rest.tree in
-    let now = g.T.Tree.faults c.read_files.new.tree in
+    let between = g.T.Tree.failures c.loop-rest.tree in
+    let now = g.T.Tree.failures c.read_files.new.tree in
     let batch = c.first_batch.result.0.now in
     let read : InTurnSoFar (IsRead known) between now batch = rw (sym so.3) c.in_ok-files.ensures.so_far in
     so_far_join (IsRead known) between _ now so.0 so.2.answers batch c.first_batch.result.1.now c.args.entries.now so.2.asked read

@@ -9,7 +9,7 @@ use Rattle.md_find.proofs.finding.keep.Goals as goal
 pub loop-file-preserved : goal.loop-file-preserved
 loop-file-preserved c =
     let before = c.loop-file.invariant in
-    let held = c.args.hits.now.items in
+    let kept = c.args.hits.now.items in
     let yielded = c.loop-file.yielded in
     let file = c.in-Some.file in
     let rest = into_iter_items c.next.new.self in
@@ -17,5 +17,5 @@ loop-file-preserved c =
     record {
       prefix = append_assoc yielded (file ∷ []) rest ∙ ap (λ files. yielded ++ files) (sym step) ∙ before.prefix;
       kept = c.in_ok-keep_file.ensures ∙ ap (λ (paths : List PathBytes). paths ++ cons_option (hit_of file) []) before.kept
-          ∙ append_assoc held (filter_map hit_of yielded) (cons_option (hit_of file) []) ∙ ap (λ (paths : List PathBytes). held ++ paths) (sym (filter_map-append hit_of yielded (file ∷ [])));
+          ∙ append_assoc kept (filter_map hit_of yielded) (cons_option (hit_of file) []) ∙ ap (λ (paths : List PathBytes). kept ++ paths) (sym (filter_map-append hit_of yielded (file ∷ [])));
     }

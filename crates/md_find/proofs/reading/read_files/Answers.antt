@@ -1,7 +1,7 @@
 use Rattle.std.proofs.Common.{◌≡◌, ◌+◌, [], ◌∷◌, ◌++◌, take, refl, sym, ◌∙◌, ap, arith}
 use Rattle.std.proofs.lemmas.List.{map-append, take_more}
 use Rattle.md_source.specs.declared.tree.Entry.{Entry}
-use Rattle.md_files.specs.Answers.{IsRead}
+use Rattle.md_files.specs.FileAnswers.{IsRead}
 use Rattle.md_files.specs.Folders.{AreRead}
 use Rattle.md_files.proofs.Turns.{in_turn_more, kept_so_far, more_so_far}
 use Rattle.md_find.specs.declared.reading.ReadFile.{ReadFile}
@@ -17,9 +17,9 @@ loop-entry-preserved g c =
     let prefix = c.in_ok-prefix.prefix in
     let file : ReadFile = record { entry = entry; prefix = prefix } in
     let known = g.T.Tree.content c.args.tree.now in
-    let was = g.T.Tree.faults c.args.tree.now in
-    let between = g.T.Tree.faults l.tree in
-    let now = g.T.Tree.faults c.read_file.new.tree in
+    let was = g.T.Tree.failures c.args.tree.now in
+    let between = g.T.Tree.failures l.tree in
+    let now = g.T.Tree.failures c.read_file.new.tree in
     let pushed : c.push.new.self.items ≡ l.files.items ++ file ∷ [] = rw (sym c.in_ok-entry.ensures) c.in_ok-push.ensures.items in
     let more : take (l.entry-index + 1) entries ≡ take l.entry-index entries ++ entry ∷ [] =
     take_more entries l.entry-index entry c.loop-entry-test.true ∙ ap (λ (x : Entry). take l.entry-index entries ++ x ∷ []) (sym c.entry-item.is) in

@@ -5,5 +5,5 @@ use Rattle.md_index.proofs.keys.insert.Goals as goal
 
 pub returns-clause-right : goal.returns-clause-right
 returns-clause-right c right =
-    let added : Keyed = record { key = c.in_ok-key.key; held = c.in_ok-held.held } in
+    let added : Keyed = record { key = c.in_ok-key.key; indexed = c.in_ok-indexed.indexed } in
     added_right c.args.keys.now c.insert.new.self added (search rules) c.args.fold c.args.marks (search rules) right

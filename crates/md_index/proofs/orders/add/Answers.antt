@@ -11,6 +11,6 @@ returns-clause-there c =
     let fact = c.args.fact.now in
     IfOk-weaker c.add_folded-2.result _ _
     (λ r second. both_flags
-    (λ fold. (marks : Bool) (k : List ℕ) → mark_of fold marks fact.held ≡ mark.Text k → is_keyed (keys_at c.add_folded-2.new.orders (record { name = fact.name; fold = fold; marks = marks })) k fact.held ≡ true)
-    (λ marks k is. c.add_folded-2.ensures.grows.kept (record { name = fact.name; fold = false; marks = marks }) k fact.held (c.in_ok-add_folded.ensures.there marks k is)) second)
+    (λ fold. (marks : Bool) (k : List ℕ) → mark_of fold marks fact.indexed ≡ mark.Text k → is_keyed (keys_at c.add_folded-2.new.orders (record { name = fact.name; fold = fold; marks = marks })) k fact.indexed ≡ true)
+    (λ marks k is. c.add_folded-2.ensures.grows.kept (record { name = fact.name; fold = false; marks = marks }) k fact.indexed (c.in_ok-add_folded.ensures.there marks k is)) second)
     c.add_folded-2.ensures.there

@@ -11,6 +11,6 @@ returns-clause-there c =
     let fact = c.args.fact.now in
     IfOk-weaker c.add_under-2.result _ _
     (λ r second. both_flags
-    (λ marks. (k : List ℕ) → mark_of c.args.fold marks fact.held ≡ mark.Text k → is_keyed (keys_at c.add_under-2.new.orders (record { name = fact.name; fold = c.args.fold; marks = marks })) k fact.held ≡ true)
-    (λ k is. c.add_under-2.ensures.grows.kept (record { name = fact.name; fold = c.args.fold; marks = false }) k fact.held (c.in_ok-add_under.ensures.there k is)) second)
+    (λ marks. (k : List ℕ) → mark_of c.args.fold marks fact.indexed ≡ mark.Text k → is_keyed (keys_at c.add_under-2.new.orders (record { name = fact.name; fold = c.args.fold; marks = marks })) k fact.indexed ≡ true)
+    (λ k is. c.add_under-2.ensures.grows.kept (record { name = fact.name; fold = c.args.fold; marks = false }) k fact.indexed (c.in_ok-add_under.ensures.there k is)) second)
     c.add_under-2.ensures.there

@@ -9,10 +9,10 @@ use Rattle.md_index.proofs.values.write.Goals as goal
 
 pub returns-in-Some : goal.returns-in-Some
 returns-in-Some c v p =
-    updated value_cmp exact_value c.args.values.now (c.get_mut.follows.lender c.write.new.places) c.args.held.now (Some c.in-Some.places.now) (Some c.write.new.places) (search rules) ((c.get_mut.follows.holds c.write.new.places).3 (search rules)).0
+    updated value_cmp exact_value c.args.values.now (c.get_mut.follows.lender c.write.new.places) c.args.indexed.now (Some c.in-Some.places.now) (Some c.write.new.places) (search rules) ((c.get_mut.follows.holds c.write.new.places).3 (search rules)).0
     (λ here o m. state_in m p ≡ written (here && (c.args.place == p)) c.args.flag (state_in o p)) (c.write.ensures p) (λ o. unwritten c.args.flag (state_in o p)) v
 
 pub returns-in_default : goal.returns-in_default
 returns-in_default c v p =
-    subst (λ m. value_state m v p ≡ written (is_eq (value_cmp c.args.held.now v) && (c.args.place == p)) c.args.flag (value_state c.args.values.now v p)) (sym c.get_mut.follows.holds-at-none)
-    (stayed value_cmp exact_value c.args.values.now c.args.held.now (search rules) (λ here o. state_in o p ≡ written (here && (c.args.place == p)) c.args.flag (state_in o p)) refl (λ o. unwritten c.args.flag (state_in o p)) v)
+    subst (λ m. value_state m v p ≡ written (is_eq (value_cmp c.args.indexed.now v) && (c.args.place == p)) c.args.flag (value_state c.args.values.now v p)) (sym c.get_mut.follows.holds-at-none)
+    (stayed value_cmp exact_value c.args.values.now c.args.indexed.now (search rules) (λ here o. state_in o p ≡ written (here && (c.args.place == p)) c.args.flag (state_in o p)) refl (λ o. unwritten c.args.flag (state_in o p)) v)

@@ -11,9 +11,9 @@ pub loop-line-preserved : goal.loop-line-preserved
 loop-line-preserved g c =
     let l = c.loop-line in
     let known = g.T.Tree.content c.args.tree.now in
-    let before = g.T.Tree.faults c.args.tree.now in
-    let between = g.T.Tree.faults l.tree in
-    let now = g.T.Tree.faults c.read_job.new.tree in
+    let before = g.T.Tree.failures c.args.tree.now in
+    let between = g.T.Tree.failures l.tree in
+    let now = g.T.Tree.failures c.read_job.new.tree in
     let lines = c.args.lines.now in
     let line = c.line-item.result in
     let made = c.in_ok-made.made in
@@ -37,9 +37,9 @@ pub returns-in_err-keep-clause-so_far : goal.returns-in_err-keep-clause-so_far
 returns-in_err-keep-clause-so_far g c =
     let l = c.loop-line in
     let known = g.T.Tree.content c.args.tree.now in
-    let before = g.T.Tree.faults c.args.tree.now in
-    let between = g.T.Tree.faults l.tree in
-    let now = g.T.Tree.faults c.read_job.new.tree in
+    let before = g.T.Tree.failures c.args.tree.now in
+    let between = g.T.Tree.failures l.tree in
+    let now = g.T.Tree.failures c.read_job.new.tree in
     let lines = c.args.lines.now in
     let line = c.line-item.result in
     let made = c.in_ok-made.made in

@@ -12,9 +12,9 @@ loop-line-preserved g c =
     let l = c.loop-line in
     let offset = c.args.offset in
     let known = g.T.Tree.content c.args.tree.now in
-    let before = g.T.Tree.faults c.args.tree.now in
-    let between = g.T.Tree.faults l.tree in
-    let now = g.T.Tree.faults c.give.new.tree in
+    let before = g.T.Tree.failures c.args.tree.now in
+    let between = g.T.Tree.failures l.tree in
+    let now = g.T.Tree.failures c.give.new.tree in
     let lines = c.args.lines.now in
     let line = c.line-item.result in
     let given = c.in_ok-give.field-0 in
@@ -33,7 +33,7 @@ returns-in_err-give-clause-so_far g c =
     let fits : FitsSigned w32 c.args.offset = search rules in
     let l = c.loop-line in
     let known = g.T.Tree.content c.args.tree.now in
-    let so : AreGiven c.args.offset known (g.T.Tree.faults c.args.tree.now) (g.T.Tree.faults l.tree) (take l.line-index c.args.lines.now) l.givens.items = simp to_z-of_z at l.invariant.given in
+    let so : AreGiven c.args.offset known (g.T.Tree.failures c.args.tree.now) (g.T.Tree.failures l.tree) (take l.line-index c.args.lines.now) l.givens.items = simp to_z-of_z at l.invariant.given in
     kept_so_far (IsGiven c.args.offset known) _ _ _ c.args.lines.now l.line-index l.givens.items so c.in_err-give.ensures.kept
 
 pub returns-in_err-push-clause-so_far : goal.returns-in_err-push-clause-so_far
@@ -41,9 +41,9 @@ returns-in_err-push-clause-so_far g c =
     let fits : FitsSigned w32 c.args.offset = search rules in
     let l = c.loop-line in
     let known = g.T.Tree.content c.args.tree.now in
-    let before = g.T.Tree.faults c.args.tree.now in
-    let between = g.T.Tree.faults l.tree in
-    let now = g.T.Tree.faults c.give.new.tree in
+    let before = g.T.Tree.failures c.args.tree.now in
+    let between = g.T.Tree.failures l.tree in
+    let now = g.T.Tree.failures c.give.new.tree in
     let lines = c.args.lines.now in
     let line = c.line-item.result in
     let given = c.in_ok-give.field-0 in
@@ -57,5 +57,5 @@ returns-clause-so_far g c =
     let fits : FitsSigned w32 c.args.offset = search rules in
     let l = c.loop-line in
     let known = g.T.Tree.content c.args.tree.now in
-    let so : AreGiven c.args.offset known (g.T.Tree.faults c.args.tree.now) (g.T.Tree.faults l.tree) (take l.line-index c.args.lines.now) l.givens.items = simp to_z-of_z at l.invariant.given in
+    let so : AreGiven c.args.offset known (g.T.Tree.failures c.args.tree.now) (g.T.Tree.failures l.tree) (take l.line-index c.args.lines.now) l.givens.items = simp to_z-of_z at l.invariant.given in
     kept_so_far (IsGiven c.args.offset known) _ _ _ c.args.lines.now l.line-index l.givens.items so refl

@@ -5,6 +5,6 @@ use Rattle.md_live.proofs.given.give_all.Given as goal
 abbrev pub invariant-loop-line : goal.invariant-loop-line
 invariant-loop-line g l = record {
   content : g.T.Tree.content l.tree ≡ g.T.Tree.content l.initial.tree;
-  later : g.T.Tree.faults l.initial.tree ≤ g.T.Tree.faults l.tree;
-  given : AreGiven l.offset (g.T.Tree.content l.initial.tree) (g.T.Tree.faults l.initial.tree) (g.T.Tree.faults l.tree) (take l.line-index l.lines) l.givens.items;
+  later : g.T.Tree.failures l.initial.tree ≤ g.T.Tree.failures l.tree;
+  given : AreGiven l.offset (g.T.Tree.content l.initial.tree) (g.T.Tree.failures l.initial.tree) (g.T.Tree.failures l.tree) (take l.line-index l.lines) l.givens.items;
 }

@@ -1,7 +1,7 @@
 use Rattle.std.proofs.Common.{subst, ◌∙◌}
 use Rattle.std.specs.Prelude.{filter, is_some}
 use Rattle.std.specs.Option.{option_map}
-use Rattle.md_plan.specs.Found.{IsFound}
+use Rattle.md_plan.specs.FoundPlaces.{IsFound}
 use Rattle.md_plan.proofs.Sets.{everything_in}
 use Rattle.md_plan.proofs.find.all_within.Goals as goal
 

@@ -5,7 +5,7 @@ use Rattle.md_value.specs.Values.{is_same}
 use Rattle.md_value.specs.Attrs.{text_content}
 use Rattle.md_index.specs.Indexed.{row_between}
 use Rattle.md_plan.specs.Plans.{probe_set}
-use Rattle.md_plan.specs.Found.{IsFound}
+use Rattle.md_plan.specs.FoundPlaces.{IsFound}
 use Rattle.md_plan.proofs.Sets.{text_none, between_in, in_rows}
 use Rattle.md_plan.proofs.find.probe_within.Goals as goal
 

@@ -1,5 +1,5 @@
 use Rattle.std.specs.Prelude.{codes, string_bytes}
-use Rattle.md_print.proofs.Pushed.{pushed}
+use Rattle.md_file_text.proofs.Pushed.{pushed}
 use Rattle.md_render.proofs.replies.push_reply.Goals as goal
 
 pub returns-in-AlreadyFinished : goal.returns-in-AlreadyFinished

@@ -8,5 +8,5 @@ loop-at-preserved g c = record {
   in_range = grind (arith, common_steps, c.in-Ok.ensures.bound);
   taken = Appends-more _ _ _ c.args.bytes.now c.loop-at.at c.in-Ok.count c.loop-at.invariant.taken c.in-Ok.ensures.bytes;
   room = omega (arith, c.in-Ok.ensures.room, c.loop-at.invariant.room);
-  faults = search rules;
+  failures = search rules;
 }

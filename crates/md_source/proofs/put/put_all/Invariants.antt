@@ -7,7 +7,7 @@ invariant-loop-at g l = record {
   in_range : l.at ≤ length l.bytes;
   taken : Appends (g.K.Sink.taken l.initial.sink) (g.K.Sink.taken l.sink) (take l.at l.bytes);
   room : g.K.Sink.spare l.sink + l.at ≡ g.K.Sink.spare l.initial.sink;
-  faults : g.K.Sink.faults l.sink ≡ g.K.Sink.faults l.initial.sink;
+  failures : g.K.Sink.failures l.sink ≡ g.K.Sink.failures l.initial.sink;
 }
 
 abbrev pub decreases-loop-at : goal.decreases-loop-at

@@ -1,4 +1,4 @@
-use Rattle.md_time.proofs.HeldText.{date-calendar}
+use Rattle.md_time.proofs.PaddedText.{date-calendar}
 use Rattle.md_time.proofs.iso_moment.date_day.Goals as goal
 
 pub day_number-requires : goal.day_number-requires

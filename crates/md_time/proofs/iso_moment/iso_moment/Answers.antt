@@ -1,7 +1,7 @@
 use Rattle.std.proofs.Common.{◌≡◌, true, false, sym, ◌∙◌, arith}
 use Rattle.jiff_core.proofs.SignedLemmas.{signed_arith}
 use Rattle.md_time.specs.IsoTexts.{is_date_text, is_full_text}
-use Rattle.md_time.proofs.HeldText.{iso-full, full-date, full-zone, full-long}
+use Rattle.md_time.proofs.PaddedText.{iso-full, full-date, full-zone, full-long}
 use Rattle.md_time.proofs.IsoMoments.{iso_moment-date, iso_moment-full}
 use Rattle.md_time.proofs.iso_moment.iso_moment.Goals as goal
 

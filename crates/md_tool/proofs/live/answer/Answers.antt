@@ -22,7 +22,7 @@ returns-in-Ok-now-clause-asks g c =
     let moment_fits : FitsSigned w64 c.in-Ok-now.moment = search rules in
     let offset_fits : FitsSigned w32 c.args.offset = search rules in
     let read : verdict c.args.bytes.now ≡ Ok c.lines.result.now = c.in-Ok.ensures.ok ∙ ap (λ (lines : List Line). Ok lines) (sym c.lines.ensures) in
-    let shown : IsShown (record { known = g.C.Clock.moment c.args.clock.now; faults = g.C.Clock.faults c.args.clock.now }) (record { known = g.C.Clock.moment c.now.new.self; faults = g.C.Clock.faults c.now.new.self }) c.in-Ok-now.moment =
+    let shown : IsShown (record { known = g.C.Clock.moment c.args.clock.now; failures = g.C.Clock.failures c.args.clock.now }) (record { known = g.C.Clock.moment c.now.new.self; failures = g.C.Clock.failures c.now.new.self }) c.in-Ok-now.moment =
     record { range = c.in-Ok-now.ensures.range; known = c.in-Ok-now.ensures.known; kept = c.in-Ok-now.ensures.cause.kept } in
     let made = simp to_z-of_z at c.of_lines.ensures.asks in
     ok_then _ _ (answers_runs c.args.offset c.args.bytes.now _ _ _ _ c.lines.result.now c.in-Ok-now.moment read shown) c.of_lines.result made

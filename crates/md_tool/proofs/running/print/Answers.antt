@@ -9,8 +9,8 @@ use Rattle.md_tool.proofs.running.print.Goals.{in-Ok-put_texts, in-Err-Failed, i
 
 pub returns-clause-prints : goal.returns-clause-prints
 returns-clause-prints g c =
-    let before : Outputs = outputs (g.E.Sink.taken c.args.err.now) (g.E.Sink.faults c.args.err.now) (g.K.Sink.taken c.args.out.now) (g.K.Sink.faults c.args.out.now) in
-    let after : Outputs = outputs (g.E.Sink.taken c.put_texts.new.err) (g.E.Sink.faults c.put_texts.new.err) (g.K.Sink.taken c.put_texts.new.out) (g.K.Sink.faults c.put_texts.new.out) in
+    let before : Outputs = outputs (g.E.Sink.taken c.args.err.now) (g.E.Sink.failures c.args.err.now) (g.K.Sink.taken c.args.out.now) (g.K.Sink.failures c.args.out.now) in
+    let after : Outputs = outputs (g.E.Sink.taken c.put_texts.new.err) (g.E.Sink.failures c.put_texts.new.err) (g.K.Sink.taken c.put_texts.new.out) (g.K.Sink.failures c.put_texts.new.out) in
     let report = c.in-Ok.report in
     let err_is = c.as_str.ensures.value ∙ ap (λ (r : Report). r.err) c.report.view_is in
     let out_is = c.as_str-2.ensures.value ∙ ap (λ (r : Report). r.out) c.report.view_is in

@@ -10,10 +10,10 @@ returns-in-Ok-clause-ends g c = ends_words (texts c.args.words.now) _ _ _ _ c.in
 
 pub returns-in-Ok-clause-complete : goal.returns-in-Ok-clause-complete
 returns-in-Ok-clause-complete g c =
-    let old = inputs (g.T.Tree.content c.args.tree.now) (g.T.Tree.faults c.args.tree.now) (g.S.Source.left c.args.script.now) (g.S.Source.faults c.args.script.now) (g.C.Clock.moment c.args.clock.now) (g.C.Clock.faults c.args.clock.now) in
-    let new = inputs (g.T.Tree.content c.run_command.new.tree) (g.T.Tree.faults c.run_command.new.tree) (g.S.Source.left c.run_command.new.script) (g.S.Source.faults c.run_command.new.script) (g.C.Clock.moment c.run_command.new.clock) (g.C.Clock.faults c.run_command.new.clock) in
-    let before = outputs (g.E.Sink.taken c.args.err.now) (g.E.Sink.faults c.args.err.now) (g.K.Sink.taken c.args.out.now) (g.K.Sink.faults c.args.out.now) in
-    let after = outputs (g.E.Sink.taken c.run_command.new.err) (g.E.Sink.faults c.run_command.new.err) (g.K.Sink.taken c.run_command.new.out) (g.K.Sink.faults c.run_command.new.out) in
+    let old = inputs (g.T.Tree.content c.args.tree.now) (g.T.Tree.failures c.args.tree.now) (g.S.Source.left c.args.script.now) (g.S.Source.failures c.args.script.now) (g.C.Clock.moment c.args.clock.now) (g.C.Clock.failures c.args.clock.now) in
+    let new = inputs (g.T.Tree.content c.run_command.new.tree) (g.T.Tree.failures c.run_command.new.tree) (g.S.Source.left c.run_command.new.script) (g.S.Source.failures c.run_command.new.script) (g.C.Clock.moment c.run_command.new.clock) (g.C.Clock.failures c.run_command.new.clock) in
+    let before = outputs (g.E.Sink.taken c.args.err.now) (g.E.Sink.failures c.args.err.now) (g.K.Sink.taken c.args.out.now) (g.K.Sink.failures c.args.out.now) in
+    let after = outputs (g.E.Sink.taken c.run_command.new.err) (g.E.Sink.failures c.run_command.new.err) (g.K.Sink.taken c.run_command.new.out) (g.K.Sink.failures c.run_command.new.out) in
     complete_words (texts c.args.words.now) old new before after c.run_command.result.status c.in-Ok.command c.in-Ok.ensures.ok c.run_command.ensures.complete
 
 pub returns-in-Ok-clause-leaves : goal.returns-in-Ok-clause-leaves

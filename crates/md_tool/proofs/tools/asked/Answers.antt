@@ -7,29 +7,29 @@ use Rattle.md_tool.proofs.tools.asked.Goals as goal
 pub returns-in-Show-clause-asks : goal.returns-in-Show-clause-asks
 returns-in-Show-clause-asks g c =
     let fits : FitsSigned w32 c.args.command.now.offset = search rules in
-    let script : Bytes = record { known = g.S.Source.left c.args.script.now; faults = g.S.Source.faults c.args.script.now } in
-    let clock : Shown = record { known = g.C.Clock.moment c.args.clock.now; faults = g.C.Clock.faults c.args.clock.now } in
+    let script : Bytes = record { known = g.S.Source.left c.args.script.now; failures = g.S.Source.failures c.args.script.now } in
+    let clock : Shown = record { known = g.C.Clock.moment c.args.clock.now; failures = g.C.Clock.failures c.args.clock.now } in
     ok_then _ _ (λ report of. rw c.in-Show.is (simp (to_z-of_z, c.as_str.ensures, c.as_slice.ensures, c.as_slice-in-Show.ensures) at of)) c.show.result (c.show.ensures.asks script clock)
 
 pub returns-in-Show-clause-tells : goal.returns-in-Show-clause-tells
 returns-in-Show-clause-tells g c =
     let fits : FitsSigned w32 c.args.command.now.offset = search rules in
-    let script : Bytes = record { known = g.S.Source.left c.args.script.now; faults = g.S.Source.faults c.args.script.now } in
-    let clock : Shown = record { known = g.C.Clock.moment c.args.clock.now; faults = g.C.Clock.faults c.args.clock.now } in
+    let script : Bytes = record { known = g.S.Source.left c.args.script.now; failures = g.S.Source.failures c.args.script.now } in
+    let clock : Shown = record { known = g.C.Clock.moment c.args.clock.now; failures = g.C.Clock.failures c.args.clock.now } in
     ok_then _ _ (λ report of. rw c.in-Show.is (simp (to_z-of_z, c.as_str.ensures, c.as_slice.ensures, c.as_slice-in-Show.ensures) at of)) c.show.result (c.show.ensures.tells script clock)
 
 pub returns-in-Import-clause-asks : goal.returns-in-Import-clause-asks
 returns-in-Import-clause-asks g c =
     let fits : FitsSigned w32 c.args.command.now.offset = search rules in
-    let script : Bytes = record { known = g.S.Source.left c.args.script.now; faults = g.S.Source.faults c.args.script.now } in
-    let clock : Shown = record { known = g.C.Clock.moment c.args.clock.now; faults = g.C.Clock.faults c.args.clock.now } in
+    let script : Bytes = record { known = g.S.Source.left c.args.script.now; failures = g.S.Source.failures c.args.script.now } in
+    let clock : Shown = record { known = g.C.Clock.moment c.args.clock.now; failures = g.C.Clock.failures c.args.clock.now } in
     ok_then _ _ (λ report of. rw c.in-Import.is (simp (to_z-of_z, c.as_slice-in-Import.ensures) at of)) c.import.result (c.import.ensures.asks script clock)
 
 pub returns-in-Import-clause-tells : goal.returns-in-Import-clause-tells
 returns-in-Import-clause-tells g c =
     let fits : FitsSigned w32 c.args.command.now.offset = search rules in
-    let script : Bytes = record { known = g.S.Source.left c.args.script.now; faults = g.S.Source.faults c.args.script.now } in
-    let clock : Shown = record { known = g.C.Clock.moment c.args.clock.now; faults = g.C.Clock.faults c.args.clock.now } in
+    let script : Bytes = record { known = g.S.Source.left c.args.script.now; failures = g.S.Source.failures c.args.script.now } in
+    let clock : Shown = record { known = g.C.Clock.moment c.args.clock.now; failures = g.C.Clock.failures c.args.clock.now } in
     ok_then _ _ (λ report of. rw c.in-Import.is (simp (to_z-of_z, c.as_slice-in-Import.ensures) at of)) c.import.result (c.import.ensures.tells script clock)
 
 pub returns-in-Live-None-clause-asks : goal.returns-in-Live-None-clause-asks
@@ -45,7 +45,7 @@ returns-in-Live-None-clause-tells g c =
 pub returns-in-Find-clause-asks : goal.returns-in-Find-clause-asks
 returns-in-Find-clause-asks g c =
     let fits : FitsSigned w32 c.args.command.now.offset = search rules in
-    let script : Bytes = record { known = g.S.Source.left c.args.script.now; faults = g.S.Source.faults c.args.script.now } in
+    let script : Bytes = record { known = g.S.Source.left c.args.script.now; failures = g.S.Source.failures c.args.script.now } in
     elim c.search-query.ensures.answer [
       | inl is ↦
           ok_then _ _ (λ report of. rw c.in-Find.is (simp (to_z-of_z, is, c.text_of.ensures, c.text_of-in-Find.ensures, c.output_of-output.ensures) at of)) c.find.result (c.find.ensures.asks script)
@@ -55,7 +55,7 @@ returns-in-Find-clause-asks g c =
 pub returns-in-Find-clause-tells : goal.returns-in-Find-clause-tells
 returns-in-Find-clause-tells g c =
     let fits : FitsSigned w32 c.args.command.now.offset = search rules in
-    let script : Bytes = record { known = g.S.Source.left c.args.script.now; faults = g.S.Source.faults c.args.script.now } in
+    let script : Bytes = record { known = g.S.Source.left c.args.script.now; failures = g.S.Source.failures c.args.script.now } in
     elim c.search-query.ensures.answer [
       | inl is ↦
           let read = simp (c.text_of.ensures, c.text_of-in-Find.ensures) at (sym is) in

@@ -1,8 +1,8 @@
 use Rattle.md_turn.proofs.Slots.{taken_carries, taken_holds, made_ready, unmade_ready, acted, unacted}
 use Rattle.md_turn.proofs.steps.act_by.Goals as goal
 
-pub act_held-requires-clause-carries : goal.act_held-requires-clause-carries
-act_held-requires-clause-carries g c κs within = taken_carries _ _ c.args.seat.now.me _ _ _ c.draw_ticket-ticket.ensures.drawn c.await_turn.ensures.taken
+pub act_journaled-requires-clause-carries : goal.act_journaled-requires-clause-carries
+act_journaled-requires-clause-carries g c κs within = taken_carries _ _ c.args.seat.now.me _ _ _ c.draw_ticket-ticket.ensures.drawn c.await_turn.ensures.taken
 
 pub pass_on-requires-clause-made : goal.pass_on-requires-clause-made
 pass_on-requires-clause-made g c κs within = made_ready _ _ _ _ _ c.in-Ok.answer _ c.in-Ok.ensures.view (taken_holds _ _ _ _ c.await_turn.ensures.taken) c.in-Ok.ensures.acted

@@ -5,7 +5,7 @@ use Rattle.std.specs.Cmp.Lexicographic.{slice_cmp}
 use Rattle.std.specs.BTreeMap.{get}
 use Rattle.md_index.specs.States.{is_on, named_state}
 use Rattle.md_index.specs.Keys.{keys_at}
-use Rattle.md_index.proofs.Keying.{not_there, wanted_held}
+use Rattle.md_index.proofs.Keying.{not_there, wanted_indexed}
 use Rattle.md_index.proofs.index.Index.want.Goals as goal
 
 pub returns-clause-rows : goal.returns-clause-rows
@@ -17,7 +17,7 @@ returns-clause-rows c rows holds =
     let got : option_map (λ m. m.now) c.get-values.result ≡ get (slice_cmp nat_cmp) names wanted.name = search rules in (
       holds.0,
       holds.1,
-      wanted_held orders c.insert.new.self names wanted keys rows (not_there (keys_at orders wanted) (search rules)) (search rules) (search rules)
+      wanted_indexed orders c.insert.new.self names wanted keys rows (not_there (keys_at orders wanted) (search rules)) (search rules) (search rules)
           (λ k v p own on. c.in_ok-keys.ensures.whole k v p own (subst (λ o. is_on (named_state o v p) ≡ true) (sym got) on))
           holds.0 holds.2,
     )

@@ -2,7 +2,7 @@ use Rattle.std.proofs.Common.{◌<◌, ◌≤◌, ◌^◌, ◌-◌, length, subs
 use Rattle.std.specs.Prelude.{Some}
 use Rattle.std.specs.Option.{option_map}
 use Rattle.md_plan.specs.Plans.{plan_set}
-use Rattle.md_plan.specs.Found.{is_in, places_of, size_of, IsFound}
+use Rattle.md_plan.specs.FoundPlaces.{is_in, places_of, size_of, IsFound}
 use Rattle.md_plan.proofs.Sets.{all_pass}
 use Rattle.md_plan.proofs.plan.Plan.find.Goals as goal
 

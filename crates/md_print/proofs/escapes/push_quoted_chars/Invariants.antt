@@ -1,8 +1,0 @@
-use Rattle.std.proofs.Common.{◌≡◌, ◌++◌, string_bytes}
-use Rattle.std.specs.List.{flat_map}
-use Rattle.std.specs.Prelude.{encode_utf8_all}
-use Rattle.md_print.specs.Attributes.{escape_quoted}
-use Rattle.md_print.proofs.escapes.push_quoted_chars.Given as goal
-
-abbrev pub invariant-loop-c : goal.invariant-loop-c
-invariant-loop-c l = string_bytes l.text ≡ string_bytes l.initial.text ++ flat_map escape_quoted (encode_utf8_all l.yielded)
