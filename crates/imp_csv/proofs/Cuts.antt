@@ -2,6 +2,7 @@
 use Rattle.std.proofs.Common.{◌≡◌, ℕ, zero, suc, ◌+◌, ◌-◌, ◌<◌, ◌≤◌, ◌==◌, Bool, true, false, not, nat_lt, ◌||◌, List, [], ◌∷◌, ◌++◌, length, take, drop, get_or, map, filter, Option, Some, None, cond, sum, arith, refl, sym, ap, ap₂, ◌∙◌, append_assoc, take_all, length-take-le, length-drop, take-append-drop}
 use Rattle.std.specs.List.{flat_map, fold, list_any, position, position_or_len, zip}
 use Rattle.std.proofs.lemmas.List.{take-append-le, drop-append-le, nil_from_length, at_drop_more, drop-drop, drop_all}
+use Rattle.std.proofs.lemmas.Bool.{or_parts}
 use Rattle.md_value.specs.Values.{is_same}
 use Rattle.csv.specs.Records.{field_at}
 use Rattle.imp_csv.specs.Records.{cut, cell_of, is_titled}
@@ -137,12 +138,8 @@ none_at : (name : List ℕ) (header row : Fields) → list_any (is_same name) he
 none_at name [] row none = refl
 none_at name (column ∷ header) [] none = refl
 none_at name (column ∷ header) (field ∷ row) none =
-    let parts = neither (is_same name column) (list_any (is_same name) header) none in
+    let parts = or_parts (is_same name column) (list_any (is_same name) header) none in
     rw parts.0 (none_at name header row parts.1)
-  where
-    neither : (a b : Bool) → (a || b) ≡ false → (a ≡ false) × (b ≡ false)
-    neither true b h = absurd (cc)
-    neither false b h = (refl, h)
 
 pub none_found : (name : List ℕ) (header : Fields) (rows : List Row) → list_any (is_same name) header ≡ false → flat_map (fields_at name header) rows ≡ []
 none_found name header [] none = refl

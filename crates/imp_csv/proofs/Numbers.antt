@@ -4,7 +4,7 @@ use Rattle.std.specs.Option.{option_and_then}
 use Rattle.std.specs.Result.{OkIff, result_ok}
 use Rattle.std.specs.Str.{all_ascii_digits}
 use Rattle.std.specs.Str.Parse.{ParsesSigned}
-use Rattle.std.proofs.lemmas.Bool.{and_parts}
+use Rattle.std.proofs.lemmas.Bool.{and_parts, false≢true}
 use Rattle.std.proofs.lemmas.Bool.Decides.{nat_tests}
 use Rattle.std.proofs.lemmas.Str.Parse.{IsNumeralModel, numerals_by_fold, parse_signed_minus, parse_signed_plain}
 use Rattle.md_time.specs.IsoTexts.{number_after}
@@ -16,10 +16,7 @@ own = numerals_by_fold _ (search rules) number_after (search rules)
 
 by_test : {E P : Type 0} (r : Result ℤ E) (x : ℤ) (t : Bool) → OkIff r P x → (t ≡ true → P) → (P → t ≡ true) → result_ok r ≡ cond t (Some x) None
 by_test (Ok y) x true h to from = rw h.1 refl
-by_test (Ok y) x false h to from = absurd (false_true (from h.0))
-  where
-    false_true : false ≡ true → ⊥
-    false_true e = cc
+by_test (Ok y) x false h to from = absurd (false≢true (from h.0))
 by_test (Err e) x true h to from = absurd (h (to refl))
 by_test (Err e) x false h to from = refl
 

@@ -7,7 +7,7 @@ ghost use Rattle.imp_csv.specs.Tables.{giving_of};
 use crate::records::Records;
 use crate::values::values_of;
 use imp_rules::FileValues;
-use md_value::{FillFault, PlainVec, Name, Rule, Value};
+use md_value::{FillFault, Name, PlainVec, Rule, Value};
 use std::alloc::Global;
 
 /// The records of a text, and the offset of the dates in it.

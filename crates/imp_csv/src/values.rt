@@ -6,7 +6,7 @@ ghost use Rattle.imp_csv.specs.Tables.{value_of, values_of};
 
 use crate::fields::Fields;
 use imp_rules::{date_value, text_value};
-use md_value::{Copied, Fault, FillFault, PlainVec, Kind, Memory, Name, Rule, Value};
+use md_value::{Copied, Fault, FillFault, Kind, Memory, Name, PlainVec, Rule, Value};
 use std::alloc::Global;
 
 fn begins_with_plus(text: &[u8]) -> bool

@@ -5,7 +5,7 @@ ghost use Rattle.imp_json.specs.Objects.{giving_of};
 
 use crate::values::values_of;
 use imp_rules::FileValues;
-use md_value::{FillFault, PlainVec, Name, Rule, Value};
+use md_value::{FillFault, Name, PlainVec, Rule, Value};
 use serde_json::Value as Json;
 use std::alloc::Global;
 

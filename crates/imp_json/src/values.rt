@@ -5,7 +5,7 @@ ghost use Rattle.imp_rules.specs.Faults.{FillsAs, made_of, all_given};
 ghost use Rattle.imp_json.specs.Objects.{text_of, number_of, moment_of, value_of, values_of, is_given};
 
 use imp_rules::{date_value, text_value};
-use md_value::{Copied, Fault, FillFault, PlainVec, Kind, Name, Rule, Value};
+use md_value::{Copied, Fault, FillFault, Kind, Name, PlainVec, Rule, Value};
 use serde_json::Value as Json;
 use std::alloc::Global;
 

@@ -3,7 +3,7 @@ use Rattle.std.proofs.Common.{◌≡◌, ℕ, ◌&&◌, Bool, true, false, nat_e
 use Rattle.std.specs.List.{starts_with}
 use Rattle.std.specs.Str.{IsCharBoundary, is_utf8}
 use Rattle.std.specs.Str.Lossy.{utf8_valid_len}
-use Rattle.std.proofs.lemmas.Bool.{and_parts}
+use Rattle.std.proofs.lemmas.Bool.{and_parts, false≢true}
 use Rattle.std.proofs.lemmas.Bool.Decides.{nat_tests}
 use Rattle.std.proofs.lemmas.Str.{IsUtf8-past_char, IsCharBoundary-from_drop, IsUtf8-from_is_utf8, is_utf8-from_IsUtf8}
 use lib.Utf8.{encode}
@@ -19,14 +19,11 @@ mark = 239 ∷ 187 ∷ 191 ∷ []
 is : (a b : ℕ) → nat_eq a b ≡ true → b ≡ a
 is a b h = grind (arith, nat_tests)
 
-none_true : false ≡ true → ⊥
-none_true e = cc
-
 pub after_mark : (text : List ℕ) → IsUtf8 text → starts_with nat_eq text mark ≡ true → IsCharBoundary text 3
 unfolding encode
 after_mark [] utf8 h = absurd (cc)
-after_mark (a ∷ []) utf8 h = absurd (none_true (and_parts (nat_eq 239 a) false h).1)
-after_mark (a ∷ b ∷ []) utf8 h = absurd (none_true (and_parts (nat_eq 187 b) false (and_parts (nat_eq 239 a) (nat_eq 187 b && false) h).1).1)
+after_mark (a ∷ []) utf8 h = absurd (false≢true (and_parts (nat_eq 239 a) false h).1)
+after_mark (a ∷ b ∷ []) utf8 h = absurd (false≢true (and_parts (nat_eq 187 b) false (and_parts (nat_eq 239 a) (nat_eq 187 b && false) h).1).1)
 after_mark (a ∷ b ∷ c ∷ rest) utf8 h =
     let tail = and_parts (nat_eq 239 a) (nat_eq 187 b && (nat_eq 191 c && true)) h in
     let last = and_parts (nat_eq 187 b) (nat_eq 191 c && true) tail.1 in

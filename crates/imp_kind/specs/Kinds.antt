@@ -7,6 +7,13 @@ use Rattle.md_value.specs.Values.{PathBytes}
 use Rattle.imp_kind.specs.declared.kind.FileKind.{FileKind}
 use Rattle.imp_kind.specs.declared.kind.FileKind.TheVariants as kind
 
+-- what the names of a kind's files end in; no ending is of `Other` alone
+abbrev pub ending : FileKind → List ℕ
+ending kind.Plain = codes ".txt"
+ending kind.Json = codes ".json"
+ending kind.Csv = codes ".csv"
+ending kind.Other = []
+
 -- the last component of a path
 abbrev pub file_name : PathBytes → List ℕ
 file_name path = after_last is_slash path
@@ -21,9 +28,9 @@ has_ending ending name = nat_le (length ending) (length name) && bytes_eq (lower
 
 abbrev pub kind_of_name : List ℕ → FileKind
 kind_of_name name =
-    if has_ending (codes ".txt") name then kind.Plain
-    else if has_ending (codes ".json") name then kind.Json
-    else if has_ending (codes ".csv") name then kind.Csv
+    if has_ending (ending kind.Plain) name then kind.Plain
+    else if has_ending (ending kind.Json) name then kind.Json
+    else if has_ending (ending kind.Csv) name then kind.Csv
     else kind.Other
 
 abbrev pub kind_of : PathBytes → FileKind

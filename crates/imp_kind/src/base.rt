@@ -9,7 +9,7 @@ ghost use Rattle.imp_kind.specs.Kinds.{content_types, is_imported};
 use crate::FileKind;
 use imp_rules::{put_text, put_value, put_values, text_value};
 use md_source::Entry;
-use md_value::{Attrs, PlainVec, Memory, Value};
+use md_value::{Attrs, Memory, PlainVec, Value};
 use std::alloc::Global;
 
 fn push_text(alloc: Global, values: &mut PlainVec<Value>, bytes: &str) -> Result<(), Memory>

@@ -1,6 +1,6 @@
 // Kinds of files.
 ghost use Rattle.std.specs.Prelude.{◌≡◌};
-ghost use Rattle.imp_kind.specs.Kinds.{has_ending, kind_of, kind_of_name, content_type, kind_words, is_imported};
+ghost use Rattle.imp_kind.specs.Kinds.{ending, has_ending, kind_of, kind_of_name, content_type, kind_words, is_imported};
 
 use md_value::Path;
 
@@ -28,11 +28,11 @@ fn has_ending(ending: &[u8], name: &[u8]) -> bool
 fn kind_of_name(name: &[u8]) -> FileKind
     ensures { result ≡ kind_of_name name.now }
 {
-    if has_ending(b".txt", name) {
+    if has_ending(FileKind::Plain.ending().as_bytes(), name) {
         FileKind::Plain
-    } else if has_ending(b".json", name) {
+    } else if has_ending(FileKind::Json.ending().as_bytes(), name) {
         FileKind::Json
-    } else if has_ending(b".csv", name) {
+    } else if has_ending(FileKind::Csv.ending().as_bytes(), name) {
         FileKind::Csv
     } else {
         FileKind::Other
@@ -47,7 +47,20 @@ pub fn kind_of(path: &Path) -> FileKind
 }
 
 impl FileKind {
-    pub(crate) fn content_type(self) -> &'static str
+    /// What the names of such files end in, where an ending makes the kind.
+    pub fn ending(self) -> &'static str
+        ensures { result.now ≡ ending self }
+    {
+        match self {
+            FileKind::Plain => ".txt",
+            FileKind::Json => ".json",
+            FileKind::Csv => ".csv",
+            FileKind::Other => "",
+        }
+    }
+
+    /// The content type, one of Apple's uniform type identifiers.
+    pub fn content_type(self) -> &'static str
         ensures { result.now ≡ content_type self }
     {
         match self {

@@ -6,7 +6,7 @@ ghost use Rattle.imp_rules.specs.Faults.{FillsAs, made_of};
 ghost use Rattle.imp_rules.specs.Files.{Giving, file_attributes, given_of, with_given, has_name, known_of};
 
 use crate::puts::{known_name, put_given};
-use md_value::{Attrs, FillFault, PlainVec, Name, Rule, SCHEMA, Value};
+use md_value::{Attrs, FillFault, Name, PlainVec, Rule, SCHEMA, Value};
 use std::alloc::Global;
 
 /// A file's content, by what it gives each name.

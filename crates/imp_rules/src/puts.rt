@@ -5,7 +5,7 @@ ghost use Rattle.md_value.specs.Values.{IsInRange, is_mixed};
 ghost use Rattle.imp_rules.specs.Files.{with_values, with_given, with_content, text};
 
 use crate::text_value;
-use md_value::{Attrs, PlainVec, Memory, Name, NameError, PutError, Value};
+use md_value::{Attrs, Memory, Name, NameError, PlainVec, PutError, TEXT_CONTENT, Value};
 use std::alloc::Global;
 
 // The name of an attribute that is known.
@@ -22,7 +22,11 @@ pub(crate) fn known_name(alloc: Global, name: &str) -> Result<Name, Memory>
 
 // Sets the values, where there are some.
 #[tactic(auto, unfolding(crate::specs::Files::with_values))]
-pub(crate) fn put_given(attrs: &mut Attrs, name: Name, values: PlainVec<Value>) -> Result<(), Memory>
+pub(crate) fn put_given(
+    attrs: &mut Attrs,
+    name: Name,
+    values: PlainVec<Value>,
+) -> Result<(), Memory>
     requires in_range { All IsInRange values }
     requires one_kind { is_mixed values ≡ false }
     ensures ok { OnOk result (attrs.new ≡ with_given attrs.old (name, values)) }
@@ -85,5 +89,5 @@ pub fn put_content(alloc: Global, attrs: &mut Attrs, bytes: &str) -> Result<(), 
     ensures ok { OnOk result (attrs.new ≡ with_content bytes.now attrs.old) }
     ensures err { OnErr result (attrs.new ≡ attrs.old) }
 {
-    put_text(alloc, attrs, "kMDItemTextContent", bytes)
+    put_text(alloc, attrs, TEXT_CONTENT, bytes)
 }

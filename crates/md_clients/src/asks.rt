@@ -11,7 +11,7 @@ use md_expr_tree::Expr;
 use md_machine::{Batch, Event, Spec};
 use md_script::{Line, What};
 use md_time::LocalTime;
-use md_value::{Copied, HIGH, PlainVec, Path};
+use md_value::{Copied, HIGH, Path, PlainVec};
 use md_world::Order;
 use std::alloc::{AllocError, Global};
 

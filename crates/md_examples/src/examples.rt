@@ -1,8 +1,8 @@
 // The examples of a folder, run and compared.
 mod archive;
 mod comparing;
-mod example;
 mod error;
+mod example;
 mod files;
 mod header;
 mod listing;

@@ -7,4 +7,4 @@ pub use md_expr_parse::{MOST_COMPARISONS, MOST_GROUPS, ReadError};
 pub use md_expr_plain::{MOST_BYTES, interpret, named};
 pub use md_expr_print::{print, spelling_reads_back};
 pub use md_expr_tree::{Expr, Literal, Op, Subject, Test};
-pub use reading::{one_verdict, one_reading, printed_is_read, read};
+pub use reading::{one_reading, one_verdict, printed_is_read, read};

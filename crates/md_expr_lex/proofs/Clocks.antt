@@ -4,7 +4,7 @@ use Rattle.std.specs.Char.{is_ascii_digit}
 use Rattle.std.specs.List.{list_all}
 use Rattle.std.specs.Option.{option_map, option_and_then}
 use Rattle.std.specs.Cmp.Lexicographic.{same_text}
-use Rattle.std.proofs.lemmas.Bool.{eqb-true, leb-true, le-leb}
+use Rattle.std.proofs.lemmas.Bool.{eqb-true, leb-true, le-leb, and_parts}
 use Rattle.md_value.specs.Name.{is_name_part}
 use Rattle.md_time.specs.IsoTexts.{is_iso}
 use Rattle.md_time.specs.declared.form.Form.{Form}
@@ -24,7 +24,7 @@ use Rattle.md_expr_lex.specs.Numbers.{whole_of}
 use Rattle.md_expr_lex.specs.Times.{sign_of, closing, counted, after_sign, count_at, keyword_of, form_of, with_count, iso_of, iso_from, iso_at, time_by, timed, worded, time_at}
 use Rattle.md_expr_lex.proofs.Prefixes.{Prefixed, prefix_sound, prefix_found, before, not_begun, weaken, after_sound}
 use Rattle.md_expr_lex.proofs.IsoParts.{iso_ascii, iso_inside}
-use Rattle.md_expr_lex.proofs.Options.{chosen, passed, bound, mapped, same, both}
+use Rattle.md_expr_lex.proofs.Options.{chosen, passed, bound, mapped, same}
 use Rattle.md_expr_lex.proofs.Tells.{differs, fails}
 
 -- ---- found
@@ -35,7 +35,7 @@ digit_kept c cs h = rw (differs is_ascii_digit c 45 h refl, differs is_ascii_dig
 
 sign_found : {sign : List ℕ} {negative : Bool} → IsSign sign negative → (ds rest : List ℕ) → AreDigits ds → sign_of (sign ++ (ds ++ rest)) ≡ (negative, ds ++ rest)
 sign_found no_sign [] rest are = absurd (omega (arith, are.some))
-sign_found no_sign (d ∷ ds) rest are = digit_kept d (ds ++ rest) (both (is_ascii_digit d) (list_all is_ascii_digit ds) are.digits).0
+sign_found no_sign (d ∷ ds) rest are = digit_kept d (ds ++ rest) (and_parts (is_ascii_digit d) (list_all is_ascii_digit ds) are.digits).0
 sign_found plus ds rest are = refl
 sign_found minus ds rest are = refl
 
@@ -118,7 +118,7 @@ counted_sound text sign negative behind f x w is there e =
     let m = mapped (λ (rest : List ℕ). (y.0, rest)) (closing f.1) x y.2 in
     let close = closing_sound f.1 m.0 m.1 in
     let c = chosen _ _ y.0 y.1 in
-    let b = both _ _ c.0 in
+    let b = and_parts _ _ c.0 in
     let n = same (signed negative (value_of f.0)) y.0 c.1 in
     let are : AreDigits f.0 = record { some = omega (arith, leb-true 1 (length f.0) b.0); digits = there.all } in
     let whole : 40 ∷ text ≡ (40 ∷ (sign ++ (f.0 ++ 41 ∷ []))) ++ m.0 =
@@ -188,7 +188,7 @@ iso_sound text (c ∷ cs) x t e =
     let m = mapped (λ (rest : List ℕ). (form.Iso y.0, rest)) (closing f.1) x y.2 in
     let close = closing_sound f.1 m.0 m.1 in
     let i = chosen _ _ y.0 y.1 in
-    let is = both _ _ i.0 in
+    let is = and_parts _ _ i.0 in
     let p : (form.Iso f.0, m.0) ≡ x = ap (λ g. (form.Iso g, m.0)) (same f.0 y.0 i.1) ∙ m.2 in
     let whole : text ≡ (codes "iso(" ++ (f.0 ++ codes ")")) ++ m.0 =
     t ∙ ap (λ n. codes "iso" ++ n ∷ cs) (eqb-true c 40 h.0) ∙ ap (λ l. codes "iso(" ++ l) (there.whole ∙ ap (λ l. f.0 ++ l) close ∙ sym (append_assoc f.0 (codes ")") m.0)) in

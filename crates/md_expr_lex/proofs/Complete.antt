@@ -2,6 +2,7 @@
 use Rattle.std.proofs.Common.{◌≡◌, ℕ, true, false, ◌==◌, cond, List, [], ◌∷◌, ◌++◌, Some, None, codes, refl, ap, ◌∙◌, arith, append_assoc}
 use Rattle.std.specs.Char.{is_ascii_digit}
 use Rattle.std.specs.List.{list_all}
+use Rattle.std.proofs.lemmas.Bool.{and_parts}
 use Rattle.md_value.specs.Name.{is_name, is_name_start, is_name_part}
 use Rattle.md_time.specs.declared.form.Form.TheVariants as form
 use Rattle.md_expr_tree.specs.declared.token.Token.{Token}
@@ -17,7 +18,6 @@ use Rattle.md_expr_lex.specs.Signs.{either}
 use Rattle.md_expr_lex.proofs.Clocks.{counted_found, iso_found, yesterday_found}
 use Rattle.md_expr_lex.proofs.Decimals.{number_found}
 use Rattle.md_expr_lex.proofs.Prefixes.{prefix_found}
-use Rattle.md_expr_lex.proofs.Options.{both}
 use Rattle.md_expr_lex.proofs.Quoted.{body_found, modifiers_found}
 use Rattle.md_expr_lex.proofs.Tells.{letter_kind, quote_kind, digit_kind}
 
@@ -27,14 +27,14 @@ start_is_part c h = grind (arith, h)
 name_found : (n rest : List ℕ) → is_name n ≡ true → BeginsWithNo is_name_part rest → token_at (n ++ rest) ≡ Some (token.Name n, rest)
 name_found [] rest e h = cc
 name_found (c ∷ cs) rest e h =
-    let p = both (is_name_start c) (list_all is_name_part cs) e in
+    let p = and_parts (is_name_start c) (list_all is_name_part cs) e in
     let all : list_all is_name_part (c ∷ cs) ≡ true = rw (start_is_part c p.0, p.1) refl in
     ap (λ k. token_by k c (cs ++ rest)) (letter_kind c p.0) ∙ ap named (prefix_found is_name_part (c ∷ cs) rest all h) ∙ ap (λ b. cond b (Some (token.Name (c ∷ cs), rest)) None) e
 
 -- a number without a sign
 unsigned_found : (text : List ℕ) (more rest : List ℕ) → AreDigits text → token_at ((text ++ more) ++ rest) ≡ number_at false ((text ++ more) ++ rest)
 unsigned_found [] more rest are = absurd (omega (arith, are.some))
-unsigned_found (d ∷ ds) more rest are = ap (λ k. token_by k d ((ds ++ more) ++ rest)) (digit_kind d (both (is_ascii_digit d) (list_all is_ascii_digit ds) are.digits).0)
+unsigned_found (d ∷ ds) more rest are = ap (λ k. token_by k d ((ds ++ more) ++ rest)) (digit_kind d (and_parts (is_ascii_digit d) (list_all is_ascii_digit ds) are.digits).0)
 
 short : (k : ℕ) (long t : Token) (rest : List ℕ) → BeginsWithNo (λ c. c == k) rest → either k long t rest ≡ Some (t, rest)
 short k long t [] h = refl

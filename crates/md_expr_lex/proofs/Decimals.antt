@@ -3,7 +3,7 @@ use Rattle.std.proofs.Common.{◌≡◌, ◌≤◌, ◌<◌, ℕ, zero, suc, ◌
 use Rattle.std.specs.Char.{is_ascii_digit}
 use Rattle.std.specs.List.{list_all}
 use Rattle.std.specs.Option.{option_and_then}
-use Rattle.std.proofs.lemmas.Bool.{eqb-true, leb-true, le-leb}
+use Rattle.std.proofs.lemmas.Bool.{eqb-true, leb-true, le-leb, and_parts}
 use Rattle.std.proofs.lemmas.Nat.{mul-le}
 use Rattle.std.proofs.Math.Nat.{pow-succ', mul_assoc, one-le-pow}
 use Rattle.md_expr_tree.specs.declared.tree.Literal.TheVariants as literal
@@ -15,7 +15,7 @@ use Rattle.md_expr_tree.specs.Tokens.{may_not_follow_number}
 use Rattle.md_expr_lex.specs.Prefix.{prefix, begins}
 use Rattle.md_expr_lex.specs.Numbers.{decimals_of, fraction_at, ended, number_from, number_at}
 use Rattle.md_expr_lex.proofs.Prefixes.{Prefixed, prefix_sound, prefix_found, before, not_begun, weaken}
-use Rattle.md_expr_lex.proofs.Options.{chosen, passed, bound, mapped, same, both}
+use Rattle.md_expr_lex.proofs.Options.{chosen, passed, bound, mapped, same}
 use Rattle.md_expr_lex.proofs.Tells.{fails}
 
 -- ---- found
@@ -30,7 +30,7 @@ below n before limit [] l a h =
     omega (arith, p)
 below zero before limit (d ∷ ds) l a h = absurd (omega (arith, l))
 below (suc n) before limit (d ∷ ds) l a h =
-    let p = both (is_ascii_digit d) (list_all is_ascii_digit ds) a in
+    let p = and_parts (is_ascii_digit d) (list_all is_ascii_digit ds) a in
     let s = small d p.0 in
     let there = below n (before * 10 + (d - 48)) (limit * 10) ds (omega (arith, l)) p.1 (omega (arith, h, s)) in
     let e : limit * 10 ^ suc n ≡ limit * 10 * 10 ^ n = ap (λ k. limit * k) (pow-succ' 10 n) ∙ sym (mul_assoc limit 10 (10 ^ n)) in
@@ -84,7 +84,7 @@ decimals_sound cs ds rest x w a e =
     let v = chosen _ _ x e in
     let m = mapped _ _ x v.1 in
     let s = chosen _ _ m.0 m.1 in
-    let b = both _ _ s.0 in
+    let b = and_parts _ _ s.0 in
     let scale = same (10 ^ (9 - length ds)) m.0 s.1 in
     let p : (value_of ds * 10 ^ (9 - length ds), rest) ≡ x = ap (λ k. (value_of ds * k, rest)) scale ∙ m.2 in
     let there : Fraction (46 ∷ cs) (value_of ds * 10 ^ (9 - length ds), rest) = record { fraction = 46 ∷ ds; whole = ap (λ l. 46 ∷ l) w; is = point (are_digits ds b.0 a) (leb-true (length ds) 9 b.1) } in

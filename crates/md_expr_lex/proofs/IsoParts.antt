@@ -2,12 +2,11 @@
 use Rattle.std.proofs.Common.{◌≡◌, ℕ, Bool, true, false, ◌&&◌, ◌||◌, ◌==◌, cond, List, [], ◌∷◌, ◌++◌, take, drop, codes, refl, sym, ap, ◌∙◌, subst, arith}
 use Rattle.std.specs.Char.{is_ascii, is_ascii_digit}
 use Rattle.std.specs.List.{list_all, slice_range}
-use Rattle.std.proofs.lemmas.Bool.{eqb-true}
+use Rattle.std.proofs.lemmas.Bool.{eqb-true, and_parts}
 use Rattle.std.proofs.lemmas.List.{take-append-drop}
 use Rattle.std.proofs.lemmas.List.Folds.{list_all-append, drop_split}
 use Rattle.md_time.specs.IsoTexts.{stands_for, looks_like, is_date_text, is_time_text, is_plain_distance, is_colon_distance, is_zone_text, is_full_text, is_iso}
 use Rattle.md_expr_lex.specs.Kinds.{is_not_closing}
-use Rattle.md_expr_lex.proofs.Options.{both}
 
 one_of : (a b : Bool) (P : Type 0) → (a || b) ≡ true → (a ≡ true → P) → (b ≡ true → P) → P
 one_of true b P e f g = f refl
@@ -17,8 +16,8 @@ one_of false b P e f g = g e
 module _ (class : ℕ → Bool) (digit : (c : ℕ) → is_ascii_digit c ≡ true → class c ≡ true) (signs : list_all class (codes "+-") ≡ true) (date : list_all class (codes "0000-00-00") ≡ true) (time : list_all class (codes "T00:00:00") ≡ true) (z : list_all class (codes "Z") ≡ true) (short : list_all class (codes "+0000") ≡ true) (long : list_all class (codes "+00:00") ≡ true) where
   sign : (c : ℕ) → ((c == 43) || (c == 45)) ≡ true → class c ≡ true
   sign c e =
-      let p = both (class 43) (class 45 && true) signs in
-      let q = both (class 45) true p.1 in
+      let p = and_parts (class 43) (class 45 && true) signs in
+      let q = and_parts (class 45) true p.1 in
       one_of (c == 43) (c == 45) (class c ≡ true) e (λ h. subst (λ n. class n ≡ true) (sym (eqb-true c 43 h)) p.0) (λ h. subst (λ n. class n ≡ true) (sym (eqb-true c 45 h)) q.0)
 
   stands : (p c : ℕ) → class p ≡ true → stands_for p c ≡ true → class c ≡ true
@@ -34,22 +33,22 @@ module _ (class : ℕ → Bool) (digit : (c : ℕ) → is_ascii_digit c ≡ true
   looks [] (c ∷ cs) h e = cc
   looks (p ∷ ps) [] h e = cc
   looks (p ∷ ps) (c ∷ cs) h e =
-      let a = both (class p) (list_all class ps) h in
-      let b = both (stands_for p c) (looks_like ps cs) e in
+      let a = and_parts (class p) (list_all class ps) h in
+      let b = and_parts (stands_for p c) (looks_like ps cs) e in
       let rest = looks ps cs a.1 b.1 in
       rw (stands p c a.0 b.0, rest) refl
 
   date_all : (text : List ℕ) → is_date_text text ≡ true → list_all class text ≡ true
-  date_all text e = looks (codes "0000-00-00") text date (both (looks_like (codes "0000-00-00") text) _ e).0
+  date_all text e = looks (codes "0000-00-00") text date (and_parts (looks_like (codes "0000-00-00") text) _ e).0
 
   time_all : (text : List ℕ) → is_time_text text ≡ true → list_all class text ≡ true
-  time_all text e = looks (codes "T00:00:00") text time (both _ _ (both _ _ (both _ _ e).0).0).0
+  time_all text e = looks (codes "T00:00:00") text time (and_parts _ _ (and_parts _ _ (and_parts _ _ e).0).0).0
 
   plain_all : (text : List ℕ) → is_plain_distance text ≡ true → list_all class text ≡ true
-  plain_all text e = looks (codes "+0000") text short (both _ _ (both _ _ e).0).0
+  plain_all text e = looks (codes "+0000") text short (and_parts _ _ (and_parts _ _ e).0).0
 
   colon_all : (text : List ℕ) → is_colon_distance text ≡ true → list_all class text ≡ true
-  colon_all text e = looks (codes "+00:00") text long (both _ _ (both _ _ e).0).0
+  colon_all text e = looks (codes "+00:00") text long (and_parts _ _ (and_parts _ _ e).0).0
 
   zone_all : (text : List ℕ) → is_zone_text text ≡ true → list_all class text ≡ true
   zone_all text e =
@@ -62,8 +61,8 @@ module _ (class : ℕ → Bool) (digit : (c : ℕ) → is_ascii_digit c ≡ true
 
   full_all : (text : List ℕ) → is_full_text text ≡ true → list_all class text ≡ true
   full_all text e =
-      let a = both (is_date_text (take 10 text) && is_time_text (slice_range text 10 19)) (is_zone_text (drop 19 text)) e in
-      let b = both (is_date_text (take 10 text)) (is_time_text (slice_range text 10 19)) a.0 in
+      let a = and_parts (is_date_text (take 10 text) && is_time_text (slice_range text 10 19)) (is_zone_text (drop 19 text)) e in
+      let b = and_parts (is_date_text (take 10 text)) (is_time_text (slice_range text 10 19)) a.0 in
       let back : drop 10 text ≡ slice_range text 10 19 ++ drop 19 text = drop_split text 10 19 (omega arith) in
       let whole : take 10 text ++ (slice_range text 10 19 ++ drop 19 text) ≡ text = ap (λ l. take 10 text ++ l) (sym back) ∙ take-append-drop 10 text in
       subst (λ l. list_all class l ≡ true) whole (joined (take 10 text) (slice_range text 10 19 ++ drop 19 text) (date_all (take 10 text) b.0) (joined (slice_range text 10 19) (drop 19 text) (time_all (slice_range text 10 19) b.1) (zone_all (drop 19 text) a.1)))

@@ -20,7 +20,3 @@ same x y e = cc
 pub mapped : {A B : Type 0} (f : A → B) (o : Option A) (x : B) → option_map f o ≡ Some x → (y : A) × (o ≡ Some y) × (f y ≡ x)
 mapped f None x e = cc
 mapped f (Some y) x e = (y, refl, same (f y) x e)
-
-pub both : (a b : Bool) → (a && b) ≡ true → (a ≡ true) × (b ≡ true)
-both true b e = (refl, e)
-both false b e = cc

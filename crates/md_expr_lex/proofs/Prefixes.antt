@@ -1,11 +1,11 @@
 -- The prefix of a text.
 use Rattle.std.proofs.Common.{◌≡◌, ℕ, Bool, true, false, ◌+◌, cond, suc, List, [], ◌∷◌, ◌++◌, length, take, drop, Some, refl, ap, ◌∙◌, arith}
 use Rattle.std.specs.List.{take_while, prefix_len, list_all}
-use Rattle.std.proofs.lemmas.Bool.{eqb-true}
+use Rattle.std.proofs.lemmas.Bool.{eqb-true, and_parts}
 use Rattle.std.proofs.lemmas.List.Folds.{length-prefix_len}
 use Rattle.md_expr_tree.specs.Classes.{BeginsWithNo}
 use Rattle.md_expr_lex.specs.Prefix.{prefix, begins, after}
-use Rattle.md_expr_lex.proofs.Options.{both, chosen, same}
+use Rattle.md_expr_lex.proofs.Options.{chosen, same}
 
 abbrev split : ℕ → List ℕ → List ℕ × List ℕ
 split n text = (take n text, drop n text)
@@ -46,7 +46,7 @@ module _ (class : ℕ → Bool) where
   pub prefix_found : (w rest : List ℕ) → list_all class w ≡ true → BeginsWithNo class rest → prefix class (w ++ rest) ≡ (w, rest)
   prefix_found [] rest a h = none_found rest h
   prefix_found (c ∷ w) rest a h =
-      let p = both (class c) (list_all class w) a in
+      let p = and_parts (class c) (list_all class w) a in
       let there = prefix_found w rest p.1 h in
       rw (p.0, there) refl
 

@@ -1,10 +1,11 @@
 // What begins with a character.
 ghost use Rattle.std.specs.Prelude.{◌≡◌, ◌==◌};
 ghost use Rattle.std.specs.Char.{is_ascii, is_ascii_digit};
-ghost use Rattle.md_value.specs.Name.{is_name_start, is_name_part};
 ghost use Rattle.md_expr_tree.specs.Classes.{is_blank, is_escapable};
 ghost use Rattle.md_expr_tree.specs.Tokens.{may_not_follow_number, may_not_follow_time};
 ghost use Rattle.md_expr_lex.specs.Kinds.{kind_of, word_kind, sign_kind, is_not_closing};
+
+use md_value::{is_name_part, is_name_start};
 
 /// What begins with a character.
 #[derive(Clone, Copy, Debug, PartialEq, Eq)]
@@ -50,18 +51,6 @@ pub(crate) fn is_digit(c: char) -> bool
     ensures { result ≡ is_ascii_digit c }
 {
     c.is_ascii_digit()
-}
-
-pub(crate) fn is_name_start(c: char) -> bool
-    ensures { result ≡ is_name_start c }
-{
-    c.is_ascii_alphabetic() || c == '_'
-}
-
-pub(crate) fn is_name_part(c: char) -> bool
-    ensures { result ≡ is_name_part c }
-{
-    c.is_ascii_alphanumeric() || c == '_'
 }
 
 pub(crate) fn is_escapable(c: char) -> bool

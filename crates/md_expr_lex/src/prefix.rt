@@ -9,12 +9,13 @@ ghost use Rattle.md_expr_lex.specs.Prefix.{prefix, begins, after};
 ghost use Rattle.md_expr_lex.specs.Kinds.{is_not_closing};
 
 use crate::class;
+use md_value::is_name_part;
 use std::alloc::{AllocError, Global};
 
 fn word_len(text: &[char]) -> usize
     ensures { result ≡ length (take_while is_name_part text.now) }
 {
-    text.iter().take_while(|c| class::is_name_part(**c)).count()
+    text.iter().take_while(|c| is_name_part(**c)).count()
 }
 
 /// The letters, digits and `_` at the beginning, and the rest.
@@ -70,7 +71,7 @@ pub(crate) fn begins_word(text: &[char]) -> bool
 {
     match text {
         [] => false,
-        [c, ..] => class::is_name_part(*c),
+        [c, ..] => is_name_part(*c),
     }
 }
 

@@ -1,5 +1,6 @@
 -- Texts that read as the expressions of plain texts and names.
 use Rattle.std.proofs.Common.{◌≡◌, ◌<◌, ℕ, Bool, true, false, ◌||◌, ◌==◌, List, [], ◌∷◌, ◌++◌, length, map, codes, refl, sym, subst, arith, append-nil}
+use Rattle.std.proofs.lemmas.Bool.{or_parts}
 use Rattle.md_value.specs.Name.{is_name_part}
 use Rattle.md_expr_tree.specs.declared.tree.Op.TheVariants as op
 use Rattle.md_expr_tree.specs.declared.token.Token.{Token}
@@ -22,10 +23,6 @@ abbrev spelled : List ℕ → List ℕ
 spelled [] = []
 spelled (c ∷ cs) = escaped_by (is_escapable c) c ++ spelled cs
 
-neither : (a b : Bool) → (a || b) ≡ false → (a ≡ false) × (b ≡ false)
-neither true b h = cc
-neither false b h = (refl, h)
-
 in_body : {rest p : List ℕ} {ps : List (List ℕ)} (w : List ℕ) → IsBody 34 rest (p ∷ ps) → IsBody 34 (spelled w ++ rest) ((w ++ p) ∷ ps)
 in_body [] b = b
 in_body {rest} {p} {ps} (c ∷ w) b = go (is_escapable c) refl (in_body w b)
@@ -33,9 +30,9 @@ in_body {rest} {p} {ps} (c ∷ w) b = go (is_escapable c) refl (in_body w b)
     go : (r : Bool) → is_escapable c ≡ r → IsBody 34 (spelled w ++ rest) ((w ++ p) ∷ ps) → IsBody 34 ((escaped_by r c ++ spelled w) ++ rest) ((c ∷ (w ++ p)) ∷ ps)
     go true e more = escaped e more
     go false e more =
-        let third = neither ((c == 34 || c == 39) || c == 92) (c == 42) e in
-        let second = neither (c == 34 || c == 39) (c == 92) third.0 in
-        plain (neither (c == 34) (c == 39) second.0).0 second.1 third.1 more
+        let third = or_parts ((c == 34 || c == 39) || c == 92) (c == 42) e in
+        let second = or_parts (c == 34 || c == 39) (c == 92) third.0 in
+        plain (or_parts (c == 34) (c == 39) second.0).0 second.1 third.1 more
 
 -- what stands between the quotes of `"*w*"`
 abbrev body : List ℕ → List ℕ

@@ -8,7 +8,7 @@ ghost use Rattle.md_expr_plain.specs.Plain.{anywhere, word_test, name_test, word
 use crate::words::{characters, is_blank, is_word, text_of, word_count};
 use md_expr_parse::{MOST_COMPARISONS, ReadError};
 use md_expr_tree::{Expr, Literal, Op, Subject, Test};
-use md_value::{PlainVec as Pieces, Memory, Name, NameError, Text};
+use md_value::{Memory, Name, NameError, PlainVec as Pieces, Text};
 use sqlite_items::PlainVec;
 use std::alloc::{AllocError, Global};
 

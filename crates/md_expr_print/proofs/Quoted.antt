@@ -1,16 +1,13 @@
 -- Strings as they are written are strings.
 use Rattle.std.proofs.Common.{◌≡◌, ℕ, Bool, true, false, ◌||◌, ◌==◌, cond, List, [], ◌∷◌, ◌++◌, map, codes, refl, subst, append-nil}
 use Rattle.std.specs.List.{flat_map}
+use Rattle.std.proofs.lemmas.Bool.{or_parts}
 use Rattle.md_value.specs.Name.{is_name_part}
 use Rattle.md_expr_tree.specs.declared.tree.Literal.TheVariants as literal
 use Rattle.md_expr_tree.specs.declared.token.Token.TheVariants as token
 use Rattle.md_expr_tree.specs.Classes.{is_escapable, BeginsWithNo}
 use Rattle.md_expr_tree.specs.Tokens.{IsBody, done, plain, escaped, wildcard, AreModifiers, none, c, d, cd, Stands, string}
 use Rattle.md_expr_print.specs.Literals.{join, escape, modifier, words_text}
-
-neither : (a b : Bool) → (a || b) ≡ false → (a ≡ false) × (b ≡ false)
-neither false b e = (refl, e)
-neither true b e = cc
 
 -- a character that is escaped may be
 escapable : (n : ℕ) → ((n == 34 || n == 92) || n == 42) ≡ true → is_escapable n ≡ true
@@ -28,8 +25,8 @@ one_more n more cs r ps there = go ((n == 34 || n == 92) || n == 42) refl
     go : (b : Bool) → ((n == 34 || n == 92) || n == 42) ≡ b → IsBody 34 ((cond b (92 ∷ n ∷ []) (n ∷ []) ++ more) ++ cs) ((n ∷ r) ∷ ps)
     go true h = escaped (escapable n h) there
     go false h =
-        let p = neither (n == 34 || n == 92) (n == 42) h in
-        let q = neither (n == 34) (n == 92) p.0 in
+        let p = or_parts (n == 34 || n == 92) (n == 42) h in
+        let q = or_parts (n == 34) (n == 92) p.0 in
         plain q.0 q.1 p.1 there
 
 -- a piece before the first piece

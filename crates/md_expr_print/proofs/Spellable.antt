@@ -3,6 +3,7 @@ use Rattle.std.proofs.Common.{◌≡◌, ℕ, Bool, true, false, ◌||◌, ◌&&
 use Rattle.std.specs.Char.{is_ascii}
 use Rattle.std.specs.List.{list_all}
 use Rattle.std.proofs.lemmas.Bool.Decides.{nat_tests}
+use Rattle.std.proofs.lemmas.Bool.{and_parts}
 use Rattle.md_value.specs.Name.{is_name, is_name_start, is_name_part}
 use Rattle.md_expr_tree.specs.declared.tree.Op.{Op}
 use Rattle.md_expr_tree.specs.declared.tree.Op.TheVariants as op
@@ -95,17 +96,13 @@ part_ascii c h = grind (arith, nat_tests, h)
 start_ascii : (c : ℕ) → is_name_start c ≡ true → is_ascii c ≡ true
 start_ascii c h = grind (arith, nat_tests, h)
 
-both : (a b : Bool) → (a && b) ≡ true → (a ≡ true) × (b ≡ true)
-both true b e = (refl, e)
-both false b e = cc
-
 parts_ascii : (cs : List ℕ) → list_all is_name_part cs ≡ true → list_all is_ascii cs ≡ true
 parts_ascii [] h = refl
-parts_ascii (c ∷ cs) h = let p = both (is_name_part c) (list_all is_name_part cs) h in rw (part_ascii c p.0, parts_ascii cs p.1) refl
+parts_ascii (c ∷ cs) h = let p = and_parts (is_name_part c) (list_all is_name_part cs) h in rw (part_ascii c p.0, parts_ascii cs p.1) refl
 
 name_ascii : (n : List ℕ) → is_name n ≡ true → list_all is_ascii n ≡ true
 name_ascii [] h = cc
-name_ascii (c ∷ cs) h = let p = both (is_name_start c) (list_all is_name_part cs) h in rw (start_ascii c p.0, parts_ascii cs p.1) refl
+name_ascii (c ∷ cs) h = let p = and_parts (is_name_start c) (list_all is_name_part cs) h in rw (start_ascii c p.0, parts_ascii cs p.1) refl
 
 -- a name's characters are its bytes
 name_lexes : (n rest : List ℕ) (us : List Token) → is_name n ≡ true → BeginsWithNo is_name_part rest → Lexes rest us → Lexes (chars n ++ rest) (token.Name n ∷ us)

@@ -2,7 +2,7 @@
 ghost use Rattle.std.specs.Prelude.{◌≡◌, IfOk};
 
 use md_time::Form;
-use md_value::{Copied, PlainVec as Pieces, Name, Text};
+use md_value::{Copied, Name, PlainVec as Pieces, Text};
 use sqlite_items::{Boxed, PlainVec};
 use std::alloc::{AllocError, Global};
 

@@ -7,14 +7,14 @@ ghost use Rattle.md_value.specs.Attrs.{text_content};
 ghost use Rattle.md_file_text.specs.Attributes.{field_line, field_text, lines_text, longest, printed_values, raw_text};
 
 use crate::values::push_values;
-use md_value::{Attrs, Name, Value};
+use md_value::{Attrs, Name, TEXT_CONTENT, Value};
 use std::alloc::{AllocError, Global};
 
 /// Whether it names the text of the whole file, which is never printed.
 pub(crate) fn is_text_content(name: &Name) -> bool
     ensures { result ≡ is_same name.now text_content }
 {
-    name.is("kMDItemTextContent")
+    name.is(TEXT_CONTENT)
 }
 
 fn printed_values<'a>(attrs: &'a Attrs, name: &Name) -> Option<&'a [Value]>

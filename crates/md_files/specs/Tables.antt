@@ -5,12 +5,17 @@ use Rattle.md_value.specs.Schema.{schema}
 use Rattle.md_value.specs.declared.schema.Rule.{Rule}
 use Rattle.md_value.specs.declared.value.Kind.{Kind}
 use Rattle.md_value.specs.declared.value.Kind.TheVariants as kind
+use Rattle.imp_kind.specs.Kinds.{content_type, ending}
+use Rattle.imp_kind.specs.declared.kind.FileKind.{FileKind}
+use Rattle.imp_kind.specs.declared.kind.FileKind.TheVariants as file
 
--- a line for each importer: the content type, the importer and the ending of the files' names
+-- a line of an importer: the content type of its files, its name and the ending of their names
+abbrev pub importer_line : FileKind → List ℕ → List ℕ
+importer_line k importer = content_type k ++ codes " " ++ importer ++ codes " " ++ ending k ++ codes "\n"
+
+-- a line for each importer
 abbrev pub importers_text : List ℕ
-importers_text =
-    codes "public.plain-text imp_text .txt\n" ++ codes "public.json imp_json .json\n"
-    ++ codes "public.comma-separated-values-text imp_csv .csv\n"
+importers_text = importer_line file.Plain (codes "imp_text") ++ importer_line file.Json (codes "imp_json") ++ importer_line file.Csv (codes "imp_csv")
 
 -- a kind of values, by Apple's name of its type
 abbrev pub type_words : Kind → List ℕ

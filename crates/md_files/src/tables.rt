@@ -1,10 +1,19 @@
 // The lists of the importers and of the attributes.
 ghost use Rattle.std.specs.Prelude.{◌≡◌, ◌++◌, map, IfOk, OnOk, string_bytes};
 ghost use Rattle.std.specs.List.{flat_map};
-ghost use Rattle.md_files.specs.Tables.{importers_text, type_words, many_words, attribute_line, attributes_text};
+ghost use Rattle.md_files.specs.Tables.{importer_line, importers_text, type_words, many_words, attribute_line, attributes_text};
 
+use imp_kind::FileKind;
 use md_value::{Kind, Rule, SCHEMA};
 use std::alloc::{AllocError, Global};
+
+fn push_importer(text: &mut String, kind: FileKind, importer: &str) -> Result<(), AllocError>
+    ensures { OnOk result (string_bytes text.new ≡ string_bytes text.old ++ importer_line kind importer.now) }
+{
+    let content_type = kind.content_type();
+    let ending = kind.ending();
+    writeln!(text, "{content_type} {importer} {ending}")
+}
 
 /// The importers, one on a line: the content type, the importer and the ending of the files' names. Fails only where
 /// memory runs out.
@@ -12,9 +21,9 @@ pub fn importers(alloc: Global) -> Result<String, AllocError>
     ensures { IfOk result (λ text. string_bytes text ≡ importers_text) }
 {
     let mut text = String::new(alloc);
-    text.push_str("public.plain-text imp_text .txt\n")?;
-    text.push_str("public.json imp_json .json\n")?;
-    text.push_str("public.comma-separated-values-text imp_csv .csv\n")?;
+    push_importer(&mut text, FileKind::Plain, "imp_text")?;
+    push_importer(&mut text, FileKind::Json, "imp_json")?;
+    push_importer(&mut text, FileKind::Csv, "imp_csv")?;
     Ok(text)
 }
 

@@ -6,7 +6,7 @@ use crate::draws::Draws;
 use crate::kind::Kind;
 use crate::words::word;
 use md_source::Entry;
-use md_value::{PlainVec, Path, PathError};
+use md_value::{Path, PathError, PlainVec};
 use std::alloc::{AllocError, Global};
 
 /// How many kinds of files there are.

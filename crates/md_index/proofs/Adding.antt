@@ -1,7 +1,8 @@
 -- Places that are added to a list, all or some.
 use Rattle.std.proofs.Common.{◌≡◌, ℕ, Bool, true, false, ◌||◌, List, refl, sym, ◌∙◌, ap}
+use Rattle.std.proofs.lemmas.Bool.{false≢true, or_left}
 use Rattle.md_index.specs.Indexed.{lists, Adds}
-use Rattle.md_index.proofs.Bools.{or_first, or_nothing}
+use Rattle.md_index.proofs.Bools.{or_nothing}
 
 or_left : (a b c : Bool) → a || b ≡ true → (b ≡ true → c ≡ true) → a || c ≡ true
 or_left true b c h f = refl
@@ -21,10 +22,7 @@ adds_none xs whole more none = adds_all xs xs whole more (λ p. sym (ap (λ b. l
 
 -- nothing was added
 pub adds_stop : (xs : List ℕ) (more : ℕ → Bool) → Adds xs xs false more
-adds_stop xs more = record { some = λ p h. or_first (lists xs p) (more p) h; all = λ is. absurd (none is) }
-  where
-    none : false ≡ true → ⊥
-    none e = cc
+adds_stop xs more = record { some = λ p h. or_left (lists xs p) (more p) h; all = λ is. absurd (false≢true is) }
 
 pub adds_same : (old new : List ℕ) (whole : Bool) (f g : ℕ → Bool) → ((p : ℕ) → f p ≡ g p) → Adds old new whole f → Adds old new whole g
 adds_same old new whole f g same adds =
@@ -33,12 +31,9 @@ adds_same old new whole f g same adds =
 -- some of the first came, and nothing of the second
 pub adds_first : (a b : List ℕ) (whole : Bool) (f g h : ℕ → Bool) → ((p : ℕ) → f p || g p ≡ h p) → Adds a b whole f → Adds a b false h
 adds_first a b whole f g h is one = record {
-  some = λ p k. or_left (lists a p) (f p) (h p) (one.some p k) (λ e. sym (is p) ∙ or_first (f p) (g p) e);
-  all = λ w. absurd (none w);
+  some = λ p k. or_left (lists a p) (f p) (h p) (one.some p k) (λ e. sym (is p) ∙ or_left (f p) (g p) e);
+  all = λ w. absurd (false≢true w);
 }
-  where
-    none : false ≡ true → ⊥
-    none e = cc
 
 -- all of the first came, and then what came of the second
 pub adds_then : (a b c : List ℕ) (whole : Bool) (f g h : ℕ → Bool) → ((p : ℕ) → f p || g p ≡ h p) → Adds a b true f → Adds b c whole g → Adds a c whole h

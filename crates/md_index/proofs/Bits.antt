@@ -7,7 +7,7 @@ use Rattle.std.specs.Ordering.{nat_cmp, is_eq}
 use Rattle.std.specs.List.{AllByRecursion}
 use Rattle.std.specs.Map.{lookup}
 use Rattle.std.specs.BTreeMap.{BTreeMap, get, is_at, IsOrdered}
-use Rattle.std.proofs.lemmas.Bool.{eqb-true, eqb-false, eq-eqb, lt-ltb, le-ltb, leb-true, leb-false, le-leb, lt-leb}
+use Rattle.std.proofs.lemmas.Bool.{eqb-true, eqb-false, eq-eqb, lt-ltb, le-ltb, leb-true, leb-false, le-leb, lt-leb, false≢true, or_left, or_right}
 use Rattle.std.proofs.lemmas.Cmp.{nat_cmp_total}
 use Rattle.std.proofs.lemmas.List.Elements.{recursion_from_All}
 use Rattle.std.proofs.lemmas.List.Folds.{list_any-append}
@@ -17,7 +17,7 @@ use Rattle.std.proofs.lemmas.Nat.Bits.{bit_at_set_same, bit_at_set_other, bit_at
 use Rattle.md_world.proofs.Lookups.{by_test}
 use Rattle.md_index.specs.States.{is_on, written, has_bit, block_state, blocks_state}
 use Rattle.md_index.specs.Indexed.{lists, in_block, from_bit, in_blocks}
-use Rattle.md_index.proofs.Bools.{one_bool, and_first, and_second, or_first, or_second, or_else, both_true, or_nothing}
+use Rattle.md_index.proofs.Bools.{one_bool, and_first, and_second, or_else, both_true, or_nothing}
 use Rattle.md_index.proofs.Exact.{equal}
 
 -- ---- a bit
@@ -92,10 +92,7 @@ module _ (block word i p : ℕ) (low : block < 2 ^ 27) (lt : i < 32) where
       let on = and_second (eqb (p / 32) block) (is_on (block_state (Some word) p)) h in
       by_test (ltb p (2 ^ 32))
       (λ e. subst (λ b. is_on (cond b (Some (has_bit word (p % 32))) None) ≡ true) e on)
-      (λ e. absurd (none (subst (λ b. is_on (cond b (Some (has_bit word (p % 32))) None) ≡ true) e on)))
-    where
-      none : false ≡ true → ⊥
-      none n = cc
+      (λ e. absurd (false≢true (subst (λ b. is_on (cond b (Some (has_bit word (p % 32))) None) ≡ true) e on)))
 
   block_there : in_block (block, word) p ≡ true → p / 32 ≡ block
   block_there h = eqb-true (p / 32) block (and_first (eqb (p / 32) block) (is_on (block_state (Some word) p)) h)
@@ -114,10 +111,7 @@ module _ (block word i p : ℕ) (low : block < 2 ^ 27) (lt : i < 32) where
       both_true (leb (i + 1) (p % 32)) (in_block (block, word) p) (by_test (leb (i + 1) (p % 32)) (λ e. e) (λ e. let less : p % 32 < i + 1 = leb-false (i + 1) (p % 32) e in absurd (apart there (omega arith)))) there)
 
   pub bit_passed : has_bit word i ≡ false → from_bit (i + 1) (block, word) p ≡ from_bit i (block, word) p
-  bit_passed off = not_at (λ there e. none (sym (sym (bit_there there) ∙ ap (has_bit word) e ∙ off)))
-    where
-      none : false ≡ true → ⊥
-      none n = cc
+  bit_passed off = not_at (λ there e. false≢true (sym (sym (bit_there there) ∙ ap (has_bit word) e ∙ off)))
 
   pub bit_pushed : has_bit word i ≡ true → eqb p (block * 32 + i) || from_bit (i + 1) (block, word) p ≡ from_bit i (block, word) p
   bit_pushed on =
@@ -164,10 +158,7 @@ none_high block word p high =
 -- ---- all blocks
 
 blocks_on : (m : BTreeMap ℕ ℕ) (es : List (ℕ × ℕ)) → AllByRecursion (λ (e : ℕ × ℕ). get nat_cmp m e.0 ≡ Some e.1) es → (p : ℕ) → in_blocks es p ≡ true → is_on (blocks_state m p) ≡ true
-blocks_on m [] all p h = absurd (none h)
-  where
-    none : false ≡ true → ⊥
-    none n = cc
+blocks_on m [] all p h = absurd (false≢true h)
 blocks_on m (e ∷ es) all p h =
     by_test (in_block e p)
     (λ t.
@@ -182,8 +173,8 @@ on_blocks (e ∷ es) p h =
     (λ t.
     let same : p / 32 ≡ e.0 = exact_block (p / 32) e.0 t in
     let on : is_on (block_state (Some e.1) p) ≡ true = subst (λ b. is_on (block_state (cond b (Some e.1) (lookup (is_at (nat_cmp (p / 32))) es)) p) ≡ true) t h in
-    or_first (in_block e p) (in_blocks es p) (both_true (eqb (p / 32) e.0) (is_on (block_state (Some e.1) p)) (eq-eqb (p / 32) e.0 same) on))
-    (λ t. or_second (in_block e p) (in_blocks es p) (on_blocks es p (subst (λ b. is_on (block_state (cond b (Some e.1) (lookup (is_at (nat_cmp (p / 32))) es)) p) ≡ true) t h)))
+    or_left (in_block e p) (in_blocks es p) (both_true (eqb (p / 32) e.0) (is_on (block_state (Some e.1) p)) (eq-eqb (p / 32) e.0 same) on))
+    (λ t. or_right (in_block e p) (in_blocks es p) (on_blocks es p (subst (λ b. is_on (block_state (cond b (Some e.1) (lookup (is_at (nat_cmp (p / 32))) es)) p) ≡ true) t h)))
 
 pub in_blocks_is : (m : BTreeMap ℕ ℕ) → IsOrdered nat_cmp m → (p : ℕ) → in_blocks m.entries p ≡ is_on (blocks_state m p)
 in_blocks_is m ordered p = one_bool _ _ (blocks_on m m.entries (recursion_from_All _ m.entries (All-found nat_cmp_total m ordered)) p) (on_blocks m.entries p)

@@ -15,14 +15,6 @@ pub and_second : (a b : Bool) → a && b ≡ true → b ≡ true
 and_second true b h = h
 and_second false b h = cc
 
-pub or_second : (a b : Bool) → b ≡ true → a || b ≡ true
-or_second true b h = refl
-or_second false b h = h
-
-pub or_first : (a b : Bool) → a ≡ true → a || b ≡ true
-or_first true b h = refl
-or_first false b h = cc
-
 pub or_else : (a b : Bool) → a || b ≡ true → a ≡ false → b ≡ true
 or_else true b h e = cc
 or_else false b h e = h

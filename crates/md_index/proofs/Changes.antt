@@ -1,7 +1,7 @@
 -- One change of an index, from the old facts of a place to the new ones.
 use Rattle.std.proofs.Common.{◌≡◌, ℕ, Bool, true, false, not, cond, ◌&&◌, List, refl, sym, ◌∙◌, ap, subst, eqb}
 use Rattle.std.specs.Prelude.{Option, Some, None, is_some}
-use Rattle.std.proofs.lemmas.Bool.{eqb-true}
+use Rattle.std.proofs.lemmas.Bool.{eqb-true, false≢true}
 use Rattle.md_world.specs.declared.Row.{Row}
 use Rattle.md_world.proofs.Lookups.{by_test}
 use Rattle.md_value.specs.declared.value.Value.{Value}
@@ -13,14 +13,11 @@ use Rattle.md_index.specs.Indexed.{Names, HoldRows, HasRoom, HoldPlaces, row_set
 use Rattle.md_index.proofs.Bools.{and_true, and_false}
 use Rattle.md_index.proofs.Updates.{unwritten}
 
-not_true : false ≡ true → ⊥
-not_true e = cc
-
 -- old and new say whether the fact was and is to be, and s what the index has
 pub changed : (old new : Bool) (s : Option Bool) → is_on s ≡ old → (new && not old ≡ true → is_some s ≡ true) → is_on (written (new && not old) true (written (old && not new) false s)) ≡ new
-changed false true None is room = absurd (not_true (room refl))
+changed false true None is room = absurd (false≢true (room refl))
 changed false false None is room = refl
-changed true new None is room = absurd (not_true is)
+changed true new None is room = absurd (false≢true is)
 changed true true (Some b) is room = is
 changed true false (Some b) is room = refl
 changed false true (Some b) is room = refl
@@ -55,7 +52,7 @@ module _ (m m1 m2 m3 : Names) (place : ℕ) (drops adds : List Fact) (rows : ℕ
 
 -- a place is counted as it was asked for, where there is room if it is to be
 placed : (new : Bool) (s : Option Bool) → (new ≡ true → is_some s ≡ true) → is_on (written true new s) ≡ new
-placed true None room = absurd (not_true (room refl))
+placed true None room = absurd (false≢true (room refl))
 placed false None room = refl
 placed new (Some b) room = refl
 

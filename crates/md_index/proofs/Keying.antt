@@ -6,7 +6,7 @@ use Rattle.std.specs.Cmp.Lexicographic.{slice_cmp}
 use Rattle.std.specs.Map.{lookup}
 use Rattle.std.specs.BTreeMap.{BTreeMap, get, is_at}
 use Rattle.std.specs.BTreeSet.{contains}
-use Rattle.std.proofs.lemmas.Bool.{eqb-true}
+use Rattle.std.proofs.lemmas.Bool.{eqb-true, false≢true, or_left, or_right}
 use Rattle.md_value.specs.declared.value.Value.{Value}
 use Rattle.md_world.specs.Orders.{value_cmp}
 use Rattle.md_world.specs.declared.Row.{Row}
@@ -23,7 +23,7 @@ use Rattle.md_index.specs.Facts.{is_fact, has_fact, row_has}
 use Rattle.md_index.specs.States.{is_on, state_in, value_state, named_state, state}
 use Rattle.md_index.specs.Keys.{Keys, Orders, keyed_cmp, keyed_equiv, wanted_cmp, has_key, AreKeys, AreKeysAt, is_keyed, keys_at, Grows, AreKeysFor, AreKeysOf}
 use Rattle.md_index.specs.Indexed.{Names, HoldRows, HoldKeys, HasKeys, row_set}
-use Rattle.md_index.proofs.Bools.{and_first, and_second, or_first, or_second, or_else, both_true}
+use Rattle.md_index.proofs.Bools.{and_first, and_second, or_else, both_true}
 use Rattle.md_index.proofs.Exact.{exact_name, exact_value, exact_keyed, exact_wanted}
 use Rattle.md_index.proofs.Listing.{left_more}
 use Rattle.md_index.proofs.Updates.{updated_at}
@@ -63,10 +63,7 @@ HaveKeys fold marks keys values rest =
 
 pub not_there : {X : Type 0} (o : Option X) → is_some o ≡ false → o ≡ None
 not_there None h = refl
-not_there (Some x) h = absurd (none (sym h))
-  where
-    none : false ≡ true → ⊥
-    none e = cc
+not_there (Some x) h = absurd (false≢true (sym h))
 
 on_some : (o : Option Places) (p : ℕ) → is_on (state_in o p) ≡ true → is_some o ≡ true
 on_some None p h = h
@@ -74,7 +71,7 @@ on_some (Some places) p h = refl
 
 module _ (fold marks : Bool) (values : BTreeMap Value Places) where
   pub keys_first : (keys : Keys) → HaveKeys fold marks keys values values.entries
-  keys_first keys k v p is on = or_second (has_key keys k v) _ (on_some (lookup (is_at (value_cmp v)) values.entries) p on)
+  keys_first keys k v p is on = or_right (has_key keys k v) _ (on_some (lookup (is_at (value_cmp v)) values.entries) p on)
 
   pub keys_more : (old new : Keys) (x : Value) (places : Places) (rest : List (Value × Places)) → ((k : List ℕ) (v : Value) → has_key old k v ≡ true → has_key new k v ≡ true)
       → ((k : List ℕ) → mark_of fold marks x ≡ mark.Text k → has_key new k x ≡ true) → HaveKeys fold marks old values ((x, places) ∷ rest) → HaveKeys fold marks new values rest
@@ -83,18 +80,15 @@ module _ (fold marks : Bool) (values : BTreeMap Value Places) where
       by_test (is_eq (value_cmp v x))
       (λ e.
       let same : v ≡ x = exact_value v x e in
-      or_first (has_key new k v) left (subst (λ w. has_key new k w ≡ true) (sym same) (there k (subst (λ w. mark_of fold marks w ≡ mark.Text k) same is))))
+      or_left (has_key new k v) left (subst (λ w. has_key new k w ≡ true) (sym same) (there k (subst (λ w. mark_of fold marks w ≡ mark.Text k) same is))))
       (λ e.
       let before : has_key old k v || left ≡ true = subst (λ b. has_key old k v || is_some (cond b (Some places) (lookup (is_at (value_cmp v)) rest)) ≡ true) e (so_far k v p is on) in
       by_test (has_key old k v)
-      (λ has. or_first (has_key new k v) left (kept k v has))
-      (λ not. or_second (has_key new k v) left (or_else (has_key old k v) left before not)))
+      (λ has. or_left (has_key new k v) left (kept k v has))
+      (λ not. or_right (has_key new k v) left (or_else (has_key old k v) left before not)))
 
   pub keys_last : (keys : Keys) → HaveKeys fold marks keys values [] → (k : List ℕ) (v : Value) (p : ℕ) → mark_of fold marks v ≡ mark.Text k → is_on (value_state values v p) ≡ true → has_key keys k v ≡ true
-  keys_last keys all k v p is on = by_test (has_key keys k v) (λ has. has) (λ not. absurd (none (or_else (has_key keys k v) false (all k v p is on) not)))
-    where
-      none : false ≡ true → ⊥
-      none e = cc
+  keys_last keys all k v p is on = by_test (has_key keys k v) (λ has. has) (λ not. absurd (false≢true (or_else (has_key keys k v) false (all k v p is on) not)))
 
 -- ---- orders that grow
 
@@ -123,7 +117,7 @@ KeyedFacts orders facts i =
     (w : Wanted) (k : List ℕ) (v : Value) → mark_of w.fold w.marks v ≡ mark.Text k → has_fact facts w.name v ≡ true → is_keyed (keys_at orders w) k v || has_fact (drop i facts) w.name v ≡ true
 
 pub facts_first : (orders : Orders) (facts : List Fact) → KeyedFacts orders facts 0
-facts_first orders facts w k v is has = or_second (is_keyed (keys_at orders w) k v) (has_fact facts w.name v) has
+facts_first orders facts w k v is has = or_right (is_keyed (keys_at orders w) k v) (has_fact facts w.name v) has
 
 pub facts_more : (old new : Orders) (facts : List Fact) (i : ℕ) (x : Fact) → slice_get facts i ≡ Some x → Grows old new
     → ((fold : Bool) (marks : Bool) (k : List ℕ) → mark_of fold marks x.indexed ≡ mark.Text k → is_keyed (keys_at new (record { name = x.name; fold = fold; marks = marks })) k x.indexed ≡ true)
@@ -134,7 +128,7 @@ facts_more old new facts i x there grows made so_far w k v is has =
     let now = is_keyed (keys_at new w) k v in
     let before : was || (is_fact w.name v x || rest) ≡ true = subst (λ xs. was || has_fact xs w.name v ≡ true) (left_more facts i x there) (so_far w k v is has) in
     by_test was
-    (λ e. or_first now rest (grows.kept w k v e))
+    (λ e. or_left now rest (grows.kept w k v e))
     (λ e.
     let more : is_fact w.name v x || rest ≡ true = or_else was (is_fact w.name v x || rest) before e in
     by_test (is_fact w.name v x)
@@ -142,17 +136,14 @@ facts_more old new facts i x there grows made so_far w k v is has =
     let name : x.name ≡ w.name = exact_name x.name w.name (and_first (is_eq (slice_cmp nat_cmp x.name w.name)) (is_eq (value_cmp x.indexed v)) one) in
     let indexed : x.indexed ≡ v = exact_value x.indexed v (and_second (is_eq (slice_cmp nat_cmp x.name w.name)) (is_eq (value_cmp x.indexed v)) one) in
     let here : is_keyed (keys_at new (record { name = x.name; fold = w.fold; marks = w.marks })) k x.indexed ≡ true = made w.fold w.marks k (subst (λ u. mark_of w.fold w.marks u ≡ mark.Text k) (sym indexed) is) in
-    or_first now rest (subst (λ u. is_keyed (keys_at new w) k u ≡ true) indexed (subst (λ n. is_keyed (keys_at new (record { name = n; fold = w.fold; marks = w.marks })) k x.indexed ≡ true) name here)))
-    (λ not. or_second now rest (or_else (is_fact w.name v x) rest more not)))
+    or_left now rest (subst (λ u. is_keyed (keys_at new w) k u ≡ true) indexed (subst (λ n. is_keyed (keys_at new (record { name = n; fold = w.fold; marks = w.marks })) k x.indexed ≡ true) name here)))
+    (λ not. or_right now rest (or_else (is_fact w.name v x) rest more not)))
 
 pub facts_last : (orders : Orders) (facts : List Fact) (i : ℕ) → drop i facts ≡ [] → KeyedFacts orders facts i → HasKeys orders facts
 facts_last orders facts i end all w k v is has =
     by_test (is_keyed (keys_at orders w) k v)
     (λ e. e)
-    (λ e. absurd (none (subst (λ xs. has_fact xs w.name v ≡ true) end (or_else (is_keyed (keys_at orders w) k v) (has_fact (drop i facts) w.name v) (all w k v is has) e))))
-  where
-    none : false ≡ true → ⊥
-    none n = cc
+    (λ e. absurd (false≢true (subst (λ xs. has_fact xs w.name v ≡ true) end (or_else (is_keyed (keys_at orders w) k v) (has_fact (drop i facts) w.name v) (all w k v is has) e))))
 
 -- ---- the keys of rows
 

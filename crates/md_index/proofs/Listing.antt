@@ -7,6 +7,7 @@ use Rattle.std.specs.Cmp.Lexicographic.{slice_cmp}
 use Rattle.std.specs.List.{AllByRecursion}
 use Rattle.std.proofs.lemmas.List.{append_assoc}
 use Rattle.std.proofs.lemmas.List.Folds.{list_any-append}
+use Rattle.std.proofs.lemmas.Bool.{false≢true, true≢false}
 use Rattle.md_value.specs.Values.{is_same, is_before}
 use Rattle.md_value.specs.Attrs.{Attr, IsAscending, IsAttrs, get, text_content}
 use Rattle.md_value.specs.declared.value.Value.{Value}
@@ -64,19 +65,13 @@ kept : (s t h a : Bool) → (s ≡ true → t ≡ true → false ≡ a) → (s &
 kept false t h a k = refl
 kept true false h a k = refl
 kept true true h false k = refl
-kept true true h true k = absurd (none (k refl refl))
-  where
-    none : false ≡ true → ⊥
-    none e = cc
+kept true true h true k = absurd (false≢true (k refl refl))
 
 gone : (s t h a : Bool) → (s ≡ true → t ≡ true → true ≡ a) → s && (h && not a) ≡ s && ((t || h) && not a)
 gone false t h a k = refl
 gone true false h a k = refl
 gone true true h true k = and_false h
-gone true true h false k = absurd (none (k refl refl))
-  where
-    none : true ≡ false → ⊥
-    none e = cc
+gone true true h false k = absurd (true≢false (k refl refl))
 
 regroup : (u h a : Bool) → u && (h && not a) ≡ (u && h) && not (u && a)
 regroup true h a = refl

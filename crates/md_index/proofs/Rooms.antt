@@ -3,6 +3,7 @@ use Rattle.std.proofs.Common.{◌≡◌, ℕ, ◌+◌, true, ◌||◌, List, dro
 use Rattle.std.specs.Prelude.{Some, is_some, slice_get}
 use Rattle.std.specs.Ordering.{nat_cmp, is_eq}
 use Rattle.std.specs.Cmp.Lexicographic.{slice_cmp}
+use Rattle.std.proofs.lemmas.Bool.{or_left, or_right}
 use Rattle.md_world.specs.Orders.{value_cmp}
 use Rattle.md_world.proofs.Lookups.{by_test}
 use Rattle.md_value.specs.declared.value.Value.{Value}
@@ -10,7 +11,7 @@ use Rattle.md_index.specs.declared.facts.Fact.{Fact}
 use Rattle.md_index.specs.Facts.{is_fact, has_fact}
 use Rattle.md_index.specs.States.{state}
 use Rattle.md_index.specs.Indexed.{Names}
-use Rattle.md_index.proofs.Bools.{and_first, and_second, or_first, or_second, or_else}
+use Rattle.md_index.proofs.Bools.{and_first, and_second, or_else}
 use Rattle.md_index.proofs.Exact.{exact_name, exact_value}
 use Rattle.md_index.proofs.Listing.{left_more}
 
@@ -26,7 +27,7 @@ room_more names after facts place i x there keeps made so_far n v has =
     let before : is_some (state names n v place) || (is_fact n v x || rest) ≡ true =
     subst (λ xs. is_some (state names n v place) || has_fact xs n v ≡ true) (left_more facts i x there) (so_far n v has) in
     by_test (is_some (state names n v place))
-    (λ e. or_first (is_some (state after n v place)) rest (keeps n v place e))
+    (λ e. or_left (is_some (state after n v place)) rest (keeps n v place e))
     (λ e.
     let more : is_fact n v x || rest ≡ true = or_else (is_some (state names n v place)) (is_fact n v x || rest) before e in
     by_test (is_fact n v x)
@@ -34,5 +35,5 @@ room_more names after facts place i x there keeps made so_far n v has =
     let name : x.name ≡ n = exact_name x.name n (and_first (is_eq (slice_cmp nat_cmp x.name n)) (is_eq (value_cmp x.indexed v)) is) in
     let indexed : x.indexed ≡ v = exact_value x.indexed v (and_second (is_eq (slice_cmp nat_cmp x.name n)) (is_eq (value_cmp x.indexed v)) is) in
     let here : is_some (state after n v place) ≡ true = subst (λ w. is_some (state after n w place) ≡ true) indexed (subst (λ m. is_some (state after m x.indexed place) ≡ true) name made) in
-    or_first (is_some (state after n v place)) rest here)
-    (λ not. or_second (is_some (state after n v place)) rest (or_else (is_fact n v x) rest more not)))
+    or_left (is_some (state after n v place)) rest here)
+    (λ not. or_right (is_some (state after n v place)) rest (or_else (is_fact n v x) rest more not)))

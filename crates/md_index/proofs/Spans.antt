@@ -9,6 +9,7 @@ use Rattle.std.specs.BTreeMap.Range.{is_from_start, is_past_end}
 use Rattle.std.specs.List.{list_any}
 use Rattle.std.proofs.lemmas.Cmp.{int_ranked}
 use Rattle.std.proofs.lemmas.Int.{ints}
+use Rattle.std.proofs.lemmas.Bool.{false≢true, true≢false, or_left, or_right}
 use Rattle.md_value.specs.declared.value.Value.{Value}
 use Rattle.md_value.specs.declared.value.Value.TheVariants as value
 use Rattle.md_world.specs.Orders.{value_cmp}
@@ -24,7 +25,7 @@ use Rattle.md_index.specs.Spans.{IsFloor, IsFloorOf, bound_at, is_forward, is_wi
 use Rattle.md_index.specs.States.{is_on, place_state}
 use Rattle.md_index.specs.declared.places.Places.{Places}
 use Rattle.md_index.specs.Indexed.{counted_between}
-use Rattle.md_index.proofs.Bools.{and_first, and_second, and_true, and_false, or_first, or_second, or_nothing}
+use Rattle.md_index.proofs.Bools.{and_first, and_second, and_true, and_false, or_nothing}
 use Rattle.md_index.proofs.Exact.{exact_value}
 
 -- two numbers by their order
@@ -172,10 +173,7 @@ lt_not_gt Greater h = cc
 
 -- what two marks compare as passes a test
 tested : (c : Option Ordering) (test : Ordering → Bool) (P : Type 0) → option_map_or test c false ≡ true → ((o : Ordering) → c ≡ Some o → test o ≡ true → P) → P
-tested None test P h f = absurd (none h)
-  where
-    none : false ≡ true → ⊥
-    none e = cc
+tested None test P h f = absurd (false≢true h)
 tested (Some o) test P h f = f o refl h
 
 low_covers : (fold marks : Bool) (e : Edge) (low : Option Value) → IsFloorOf e low → (v : Value) → is_flag v ≡ false → is_above (mark_of fold marks v) e ≡ true → is_from_start value_cmp (bound_at low) v ≡ true
@@ -202,10 +200,7 @@ parts_bool false t u a b h = refl
 parts_bool true true u a b h = refl
 parts_bool true false true true b h = refl
 parts_bool true false true false b h = refl
-parts_bool true false false a b h = absurd (none (h refl))
-  where
-    none : false ≡ true → ⊥
-    none e = cc
+parts_bool true false false a b h = absurd (false≢true (h refl))
 
 module _ {X : Type 0} (f t u : X → Bool) (cover : (x : X) → f x ≡ true → t x || u x ≡ true) where
   any_left : (s : X → Bool) (x : X) (xs : List X) → list_any f (filter s (x ∷ xs)) ≡ (f x && s x) || list_any f (filter s xs)
@@ -233,8 +228,8 @@ parted probe low high f g es p =
     let second = is_within low high e.0 in
     let between = and_first (is_between probe e.0) (is_on (place_state e.1 p)) h in
     by_test (is_flag e.0)
-    (λ is. or_first first second (flag_within e.0 is))
-    (λ not. or_second first second (covers probe low high f g e.0 not between)))
+    (λ is. or_left first second (flag_within e.0 is))
+    (λ not. or_right first second (covers probe low high f g e.0 not between)))
     es
 
 -- no value is between two of which the second is before the first
@@ -245,38 +240,20 @@ module _ (a b v : Value) where
   before_back Equal Less e h k = refl
   before_back Less Equal e h k =
       let same : b ≡ v = exact_value b v (ap is_eq h) in
-      absurd (none (sym k ∙ ap (λ w. is_le (value_cmp a w)) same ∙ ap is_le e))
-    where
-      none : false ≡ true → ⊥
-      none n = cc
+      absurd (false≢true (sym k ∙ ap (λ w. is_le (value_cmp a w)) same ∙ ap is_le e))
   before_back Equal Equal e h k =
       let same : b ≡ v = exact_value b v (ap is_eq h) in
-      absurd (none (sym k ∙ ap (λ w. is_le (value_cmp a w)) same ∙ ap is_le e))
-    where
-      none : false ≡ true → ⊥
-      none n = cc
+      absurd (false≢true (sym k ∙ ap (λ w. is_le (value_cmp a w)) same ∙ ap is_le e))
   before_back Equal Greater e h k =
       let same : a ≡ v = exact_value a v (ap is_eq e) in
-      absurd (none (sym k ∙ ap (λ w. is_le (value_cmp w b)) same ∙ ap is_le (value_total.antisymm v b ∙ ap ordering_reverse h)))
-    where
-      none : false ≡ true → ⊥
-      none n = cc
+      absurd (false≢true (sym k ∙ ap (λ w. is_le (value_cmp w b)) same ∙ ap is_le (value_total.antisymm v b ∙ ap ordering_reverse h)))
   before_back Less Greater e h k =
       let later : value_cmp v b ≡ Less = value_total.antisymm v b ∙ ap ordering_reverse h in
-      absurd (none (sym k ∙ ap is_le (value_total.trans a v b e later)))
-    where
-      none : false ≡ true → ⊥
-      none n = cc
+      absurd (false≢true (sym k ∙ ap is_le (value_total.trans a v b e later)))
 
 backward : (low high : Option Value) → is_forward low high ≡ false → (v : Value) → is_within low high v ≡ false
-backward None high h v = absurd (none h)
-  where
-    none : true ≡ false → ⊥
-    none n = cc
-backward (Some a) None h v = absurd (none h)
-  where
-    none : true ≡ false → ⊥
-    none n = cc
+backward None high h v = absurd (true≢false h)
+backward (Some a) None h v = absurd (true≢false h)
 backward (Some a) (Some b) h v = before_back a b v (value_cmp a v) (value_cmp b v) refl refl h
 
 pub none_backward : (probe : Probe) (low high : Option Value) → is_forward low high ≡ false → (es : List (Value × Places)) (p : ℕ) → counted_between probe (within low high es) p ≡ false

@@ -12,6 +12,7 @@ use Rattle.std.specs.BTreeMap.Range.{is_from_start, is_past_end, range_contains}
 use Rattle.std.specs.BTreeSet.{keys_between}
 use Rattle.std.proofs.lemmas.List.Elements.{recursion_from_All}
 use Rattle.std.proofs.lemmas.Map.Views.{All-found}
+use Rattle.std.proofs.lemmas.Bool.{false≢true, or_left, or_right}
 use Rattle.md_value.specs.declared.value.Value.{Value}
 use Rattle.md_value.specs.declared.value.Value.TheVariants as value
 use Rattle.md_world.specs.Orders.{value_cmp}
@@ -30,51 +31,48 @@ use Rattle.md_index.specs.States.{is_on, value_state}
 use Rattle.md_index.specs.Spans.{bound_at}
 use Rattle.md_index.specs.Keys.{Keys, keyed_cmp, keyed_equiv, has_key, AreKeysOf, edge_key, before_texts, after_texts, is_of_texts, counted_keyed, IsStretchOf}
 use Rattle.md_index.specs.Indexed.{counted_between}
-use Rattle.md_index.proofs.Bools.{one_bool, and_first, and_second, or_first, or_second, or_else, both_true}
+use Rattle.md_index.proofs.Bools.{one_bool, and_first, and_second, or_else, both_true}
 use Rattle.md_index.proofs.Exact.{exact_keyed}
 use Rattle.md_index.proofs.Ranges.{between_found, between_counted}
-
-none : false ≡ true → ⊥
-none e = cc
 
 -- ---- what is between the edges is a text
 
 module _ (e : Edge) (n : ℤ) where
   number_above : (f : Edge) → is_some (edge_key f) ≡ true → is_above (mark.Number n) f ≡ true → ⊥
-  number_above edge.None h k = none h
-  number_above (edge.With (mark.Text t)) h k = none k
-  number_above (edge.With (mark.Number t)) h k = none h
-  number_above (edge.With (mark.Moment t)) h k = none h
-  number_above (edge.Without (mark.Text t)) h k = none k
-  number_above (edge.Without (mark.Number t)) h k = none h
-  number_above (edge.Without (mark.Moment t)) h k = none h
+  number_above edge.None h k = false≢true h
+  number_above (edge.With (mark.Text t)) h k = false≢true k
+  number_above (edge.With (mark.Number t)) h k = false≢true h
+  number_above (edge.With (mark.Moment t)) h k = false≢true h
+  number_above (edge.Without (mark.Text t)) h k = false≢true k
+  number_above (edge.Without (mark.Number t)) h k = false≢true h
+  number_above (edge.Without (mark.Moment t)) h k = false≢true h
 
   number_below : (f : Edge) → is_some (edge_key f) ≡ true → is_below (mark.Number n) f ≡ true → ⊥
-  number_below edge.None h k = none h
-  number_below (edge.With (mark.Text t)) h k = none k
-  number_below (edge.With (mark.Number t)) h k = none h
-  number_below (edge.With (mark.Moment t)) h k = none h
-  number_below (edge.Without (mark.Text t)) h k = none k
-  number_below (edge.Without (mark.Number t)) h k = none h
-  number_below (edge.Without (mark.Moment t)) h k = none h
+  number_below edge.None h k = false≢true h
+  number_below (edge.With (mark.Text t)) h k = false≢true k
+  number_below (edge.With (mark.Number t)) h k = false≢true h
+  number_below (edge.With (mark.Moment t)) h k = false≢true h
+  number_below (edge.Without (mark.Text t)) h k = false≢true k
+  number_below (edge.Without (mark.Number t)) h k = false≢true h
+  number_below (edge.Without (mark.Moment t)) h k = false≢true h
 
   moment_above : (f : Edge) → is_some (edge_key f) ≡ true → is_above (mark.Moment n) f ≡ true → ⊥
-  moment_above edge.None h k = none h
-  moment_above (edge.With (mark.Text t)) h k = none k
-  moment_above (edge.With (mark.Number t)) h k = none h
-  moment_above (edge.With (mark.Moment t)) h k = none h
-  moment_above (edge.Without (mark.Text t)) h k = none k
-  moment_above (edge.Without (mark.Number t)) h k = none h
-  moment_above (edge.Without (mark.Moment t)) h k = none h
+  moment_above edge.None h k = false≢true h
+  moment_above (edge.With (mark.Text t)) h k = false≢true k
+  moment_above (edge.With (mark.Number t)) h k = false≢true h
+  moment_above (edge.With (mark.Moment t)) h k = false≢true h
+  moment_above (edge.Without (mark.Text t)) h k = false≢true k
+  moment_above (edge.Without (mark.Number t)) h k = false≢true h
+  moment_above (edge.Without (mark.Moment t)) h k = false≢true h
 
   moment_below : (f : Edge) → is_some (edge_key f) ≡ true → is_below (mark.Moment n) f ≡ true → ⊥
-  moment_below edge.None h k = none h
-  moment_below (edge.With (mark.Text t)) h k = none k
-  moment_below (edge.With (mark.Number t)) h k = none h
-  moment_below (edge.With (mark.Moment t)) h k = none h
-  moment_below (edge.Without (mark.Text t)) h k = none k
-  moment_below (edge.Without (mark.Number t)) h k = none h
-  moment_below (edge.Without (mark.Moment t)) h k = none h
+  moment_below edge.None h k = false≢true h
+  moment_below (edge.With (mark.Text t)) h k = false≢true k
+  moment_below (edge.With (mark.Number t)) h k = false≢true h
+  moment_below (edge.With (mark.Moment t)) h k = false≢true h
+  moment_below (edge.Without (mark.Text t)) h k = false≢true k
+  moment_below (edge.Without (mark.Number t)) h k = false≢true h
+  moment_below (edge.Without (mark.Moment t)) h k = false≢true h
 
 either : (a b : Bool) (P : Type 0) → a || b ≡ true → (a ≡ true → P) → (b ≡ true → P) → P
 either true b P h f g = f refl
@@ -90,7 +88,7 @@ text_between probe texts (mark.Moment n) above below =
 -- ---- its key is in the stretch
 
 le_then : (o p : Ordering) → is_ge o ≡ true → is_le p ≡ true → is_le (ordering_then (ordering_reverse o) p) ≡ true
-le_then Less p h k = absurd (none h)
+le_then Less p h k = absurd (false≢true h)
 le_then Equal p h k = k
 le_then Greater p h k = refl
 
@@ -102,7 +100,7 @@ gt_ge Greater h = refl
 lt_then : (o : Ordering) → is_le o ≡ true → is_lt (ordering_then (ordering_reverse o) Greater) ≡ false
 lt_then Less h = refl
 lt_then Equal h = refl
-lt_then Greater h = absurd (none h)
+lt_then Greater h = absurd (false≢true h)
 
 lt_le : (o : Ordering) → is_lt o ≡ true → is_le o ≡ true
 lt_le Less h = refl
@@ -155,18 +153,18 @@ in_stretch probe k (value.Moment n) is h = cc
 
 module _ (test part : Keyed → Bool) where
   found_there : (ks : List Keyed) → list_any test (filter part ks) ≡ true → (x : Keyed) × (test x ≡ true) × (list_any (is_at (keyed_cmp x)) ks ≡ true)
-  found_there [] h = absurd (none h)
+  found_there [] h = absurd (false≢true h)
   found_there (x ∷ xs) h =
       by_test (part x)
       (λ e.
       let all : test x || list_any test (filter part xs) ≡ true = subst (λ b. list_any test (cond b (x ∷ filter part xs) (filter part xs)) ≡ true) e h in
       by_test (test x)
-      (λ t. (x, t, or_first (is_eq (keyed_cmp x x)) (list_any (is_at (keyed_cmp x)) xs) (keyed_equiv.refl x)))
+      (λ t. (x, t, or_left (is_eq (keyed_cmp x x)) (list_any (is_at (keyed_cmp x)) xs) (keyed_equiv.refl x)))
       (λ t. later (found_there xs (or_else (test x) (list_any test (filter part xs)) all t))))
       (λ e. later (found_there xs (subst (λ b. list_any test (cond b (x ∷ filter part xs) (filter part xs)) ≡ true) e h)))
     where
       later : (y : Keyed) × (test y ≡ true) × (list_any (is_at (keyed_cmp y)) xs ≡ true) → (y : Keyed) × (test y ≡ true) × (list_any (is_at (keyed_cmp y)) (x ∷ xs) ≡ true)
-      later y = (y.0, y.1, or_second (is_eq (keyed_cmp y.0 x)) (list_any (is_at (keyed_cmp y.0)) xs) y.2)
+      later y = (y.0, y.1, or_right (is_eq (keyed_cmp y.0 x)) (list_any (is_at (keyed_cmp y.0)) xs) y.2)
 
   any_there : (x : Keyed) (ks : List Keyed) → test x ≡ true → part x ≡ true → list_any (is_at (keyed_cmp x)) ks ≡ true → list_any test (filter part ks) ≡ true
   any_there x [] t p h = h
@@ -176,11 +174,11 @@ module _ (test part : Keyed → Bool) where
       let same : x ≡ y = exact_keyed x y e in
       let inside : part y ≡ true = subst (λ z. part z ≡ true) same p in
       let passes : test y ≡ true = subst (λ z. test z ≡ true) same t in
-      rw inside (or_first (test y) (list_any test (filter part ys)) passes))
+      rw inside (or_left (test y) (list_any test (filter part ys)) passes))
       (λ e.
       let rest = any_there x ys t p (or_else (is_eq (keyed_cmp x y)) (list_any (is_at (keyed_cmp x)) ys) h e) in
       by_test (part y)
-      (λ i. rw i (or_second (test y) (list_any test (filter part ys)) rest))
+      (λ i. rw i (or_right (test y) (list_any test (filter part ys)) rest))
       (λ i. rw i rest))
 
 -- ---- what is counted by keys

@@ -4,6 +4,7 @@ use Rattle.std.specs.Prelude.{Option, None, Some}
 use Rattle.std.specs.declared.cmp.Ordering.{Ordering}
 use Rattle.std.specs.Ordering.{is_eq}
 use Rattle.std.specs.BTreeMap.{BTreeMap, get}
+use Rattle.std.proofs.lemmas.Bool.{false≢true}
 use Rattle.md_world.proofs.Lookups.{by_test}
 use Rattle.md_index.specs.States.{written}
 
@@ -13,9 +14,6 @@ nothing R m e q = cc
 pub unwritten : (flag : Bool) (s : Option Bool) → s ≡ written false flag s
 unwritten flag None = refl
 unwritten flag (Some old) = refl
-
-pub not_some : false ≡ true → ⊥
-not_some e = cc
 
 -- where a relation holds of what the key had and has, and of what stays, it holds at each key
 pub updated : {K X : Type 0} (R : K → K → Ordering) → ((a b : K) → is_eq (R a b) ≡ true → a ≡ b) → (m n : BTreeMap K X) (k : K) (old new : Option X)

@@ -5,10 +5,11 @@ ghost use Rattle.std.specs.Cmp.Rules.{comparing};
 ghost use Rattle.std.specs.Cmp.Lexicographic.{slice_cmp};
 ghost use Rattle.std.specs.Ordering.{as_partial_cmp, nat_cmp, is_eq};
 ghost use Rattle.std.proofs.Common.{rules};
-ghost use Rattle.md_world.specs.Orders.{rank, value_cmp};
+ghost use Rattle.md_world.specs.Orders.{value_cmp};
 ghost use Rattle.md_index.specs.Order.{is_value, value_equiv, value_total};
 
-use md_value::{Copied, Text, Value};
+use md_value::{Copied, Value};
+use md_world::value_cmp;
 use std::alloc::{AllocError, Global};
 use std::cmp::Ordering;
 use std::marker::Model;
@@ -25,36 +26,6 @@ impl Model for IndexedValue {
     ghost Value = { OneValue };
 
     ghost view = { λ h. h.value };
-}
-
-// By code points.
-fn text_cmp(a: &Text, b: &Text) -> Ordering
-    ensures { result ≡ slice_cmp nat_cmp a.now b.now }
-{
-    a.as_str().chars().cmp(b.as_str().chars())
-}
-
-fn rank(value: &Value) -> u8
-    ensures { result ≡ rank value.now }
-{
-    match value {
-        Value::Text(_) => 0,
-        Value::Number(_) => 1,
-        Value::Flag(_) => 2,
-        Value::Moment(_) => 3,
-    }
-}
-
-fn value_cmp(a: &Value, b: &Value) -> Ordering
-    ensures { result ≡ value_cmp a.now b.now }
-{
-    match (a, b) {
-        (Value::Text(a), Value::Text(b)) => text_cmp(a, b),
-        (Value::Number(a), Value::Number(b)) => a.cmp(b),
-        (Value::Flag(a), Value::Flag(b)) => a.cmp(b),
-        (Value::Moment(a), Value::Moment(b)) => a.cmp(b),
-        _ => rank(a).cmp(&rank(b)),
-    }
 }
 
 /// Whether both are one value.

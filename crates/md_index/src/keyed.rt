@@ -43,7 +43,9 @@ impl Ord for Keyed {
     fn cmp(&self, other: &Keyed) -> Ordering
         ensures { result ≡ keyed_cmp self.now other.now }
     {
-        self.key.cmp(&other.key).then(self.indexed.cmp(&other.indexed))
+        self.key
+            .cmp(&other.key)
+            .then(self.indexed.cmp(&other.indexed))
     }
 }
 

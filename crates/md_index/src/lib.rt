@@ -4,8 +4,8 @@
 mod between;
 mod blocks;
 mod facts;
-mod indexed_value;
 mod index;
+mod indexed_value;
 mod keyed;
 mod keys;
 mod named;

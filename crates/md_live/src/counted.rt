@@ -44,7 +44,12 @@ fn held_counted<L: Ledger>(
 }
 
 /// What a live query has given, if there is one. Fails only where memory runs out.
-pub fn held(alloc: Global, hub: &Hub, client: u8, number: u32) -> Result<Option<HeldRows>, AllocError>
+pub fn held(
+    alloc: Global,
+    hub: &Hub,
+    client: u8,
+    number: u32,
+) -> Result<Option<HeldRows>, AllocError>
     ensures { IfOk result (λ held. held ≡ option_map given_by (query_at hub.now.state.queries client number)) }
 {
     held_counted::<Brand>(alloc, hub, client, number, Blank::new(1))

@@ -26,7 +26,7 @@ use md_render::{entry_text, held_text};
 use md_script::{Line, What};
 use md_source::Entry;
 use md_time::LocalTime;
-use md_value::{Copied, PlainVec, Path};
+use md_value::{Copied, Path, PlainVec};
 use md_world::{Change, Limits, Order, Part};
 use std::alloc::{AllocError, Global};
 use std::marker::Model;

@@ -3,6 +3,7 @@ use Rattle.std.proofs.Common.{◌≡◌, ℕ, suc, ◌+◌, ◌≤◌, Bool, tru
 use Rattle.std.specs.Prelude.{◌==◌, None, Some, filter}
 use Rattle.std.specs.List.{AllByRecursion, IsDistinct}
 use Rattle.md_world.proofs.Lookups.{by_test, some_inj}
+use Rattle.md_world.proofs.Lists.{all_filter}
 use Rattle.md_machine.specs.States.{Query, is_query, query_at, with_query, queries_of}
 use Rattle.md_machine.specs.Laws.{same_key}
 use Rattle.md_machine.proofs.Lists.{all_more}
@@ -10,12 +11,6 @@ use Rattle.md_machine.proofs.Queries.{key_of, own_key}
 
 pub some_not_none : {A : Type 0} (x : A) → Some x ≡ None → ⊥
 some_not_none x h = cc
-
--- what holds of each item holds of those that pass a test
-pub all_filter : {A : Type 0} (P : A → Type 0) (t : A → Bool) (xs : List A) → AllByRecursion P xs → AllByRecursion P (filter t xs)
-all_filter P t [] h = tt
-all_filter P t (x ∷ xs) h =
-    by_test (t x) (λ e. rw e (h.0, all_filter P t xs h.1)) (λ e. rw e (all_filter P t xs h.1))
 
 -- what holds of each query holds with one set of which it holds
 pub all_set : (P : Query → Type 0) (qs : List Query) (new : Query) → AllByRecursion P qs → P new → AllByRecursion P (with_query qs new)

@@ -8,6 +8,7 @@ use Rattle.md_world.specs.declared.Change.{Change}
 use Rattle.md_world.specs.declared.Limits.{Limits}
 use Rattle.md_world.specs.Differences.{items_of}
 use Rattle.md_world.proofs.Lookups.{by_test}
+use Rattle.md_world.proofs.Lists.{all_filter, none_is}
 use Rattle.md_machine.specs.declared.Spec.{Spec}
 use Rattle.md_machine.specs.declared.Event.{Event}
 use Rattle.md_machine.specs.declared.Event.TheVariants as event
@@ -18,7 +19,7 @@ use Rattle.md_machine.specs.Runs.{run_from, run}
 use Rattle.md_machine.specs.Laws.{KeysAreDistinct, DisablesAreBounded, ClientsAreBounded, PendingIsWithin}
 use Rattle.md_machine.proofs.Lists.{by_cond, all_more, all_map}
 use Rattle.md_machine.proofs.Stamped.{IsStamped, still_stamped, after_stamped, pending_stamped}
-use Rattle.md_machine.proofs.Keys.{all_filter, all_set, of_found, keys_more, keys_set, keys_out, count_more, count_set, count_out}
+use Rattle.md_machine.proofs.Keys.{all_set, of_found, keys_more, keys_set, keys_out, count_more, count_set, count_out}
 use Rattle.md_machine.proofs.Bounds.{runs_bounded}
 
 -- what holds of a live query
@@ -118,10 +119,6 @@ module _ (limits : Limits) (s : State) (sound : AreSound limits s) where
   close_sound None = sound
   close_sound (Some t) = closed_sound t.number
 
-  no_query : (o : Option Query) → is_some o ≡ false → o ≡ None
-  no_query None h = refl
-  no_query (Some q) h = cc
-
   -- a client with room has one query more, and each other client as many as before
   room_for : (c d : ℕ) → queries_of s.queries c + 1 ≤ limits.queries → queries_of s.queries d + cond (c == d) 1 0 ≤ limits.queries
   room_for c d room =
@@ -142,7 +139,7 @@ module _ (limits : Limits) (s : State) (sound : AreSound limits s) where
       record {
         same = sound.same;
         newest = sound.newest;
-        keys = keys_more s.queries new sound.keys (no_query (query_at s.queries c n) free);
+        keys = keys_more s.queries new sound.keys (none_is (query_at s.queries c n) free);
         clients = λ d. rw (count_more s.queries new d) (room_for c d room);
         each = all_more (IsSound limits s.stamps) s.queries new sound.each (record { disables = omega arith; base = sound.newest });
       })

@@ -13,6 +13,7 @@ use Rattle.md_world.specs.declared.Limits.{Limits}
 use Rattle.md_world.specs.declared.order.SortKey.{SortKey}
 use Rattle.md_world.specs.Differences.{items_of}
 use Rattle.md_world.proofs.Lookups.{by_test, some_inj}
+use Rattle.md_world.proofs.Lists.{none_is, or_none}
 use Rattle.md_machine.specs.declared.Spec.{Spec}
 use Rattle.md_machine.specs.declared.Event.{Event}
 use Rattle.md_machine.specs.declared.Event.TheVariants as event
@@ -119,14 +120,6 @@ still_received replies r h = spoken_more replies r (later r h) ∙ same (spoken 
     same : (version : ℕ) (r : Reply) → IsStill r → version_after version r ≡ version
     same version (reply.Notice notice) h = absurd h
     same version _ h = refl
-
-none_is : (o : Option Query) → is_some o ≡ false → o ≡ None
-none_is None h = refl
-none_is (Some x) h = cc
-
-or_none : (o : Option Query) → option_or o None ≡ o
-or_none None = refl
-or_none (Some x) = refl
 
 module _ (received_so : Received) (s : State) (at : AreOfBase received_so s) where
   abbrev After : Event → StepResult → Type 0

@@ -7,6 +7,7 @@ use Rattle.std.specs.List.Sorted.{IsPartitionedBy}
 use Rattle.std.proofs.Math.Numerals.{one-add}
 use Rattle.std.proofs.lemmas.Bool.Decides.{nat_tests}
 use Rattle.std.proofs.lemmas.Option.{slice_get-get_or, slice_get_within, get_or_from_slice_get}
+use Rattle.std.proofs.lemmas.Bool.{false≢true, true≢false}
 use Rattle.md_value.specs.Values.{PathBytes, is_same, is_before}
 use Rattle.md_value.proofs.Orders.{same_exact, same_refl, before_trans, itself_not_before}
 use Rattle.md_world.proofs.Lookups.{by_test, some_inj}
@@ -137,35 +138,26 @@ module _ (keys : List PathBytes) (order : List ℕ) (path : PathBytes) (sorted :
       let same : n ≡ i = some_inj n i (sym there ∙ at_rank i e) in
       let own = number_own keys path i e in
       let key : slice_get keys n ≡ Some path = ap (slice_get keys) same ∙ slice_get-get_or keys i [] own.0 ∙ ap Some own.1 in
-      true_false (sym (same_refl path) ∙ ap (λ o. option_map_or (λ key. is_same key path) o false) (sym key) ∙ apart))
-    where
-      true_false : true ≡ false → ⊥
-      true_false h = cc
+      true≢false (sym (same_refl path) ∙ ap (λ o. option_map_or (λ key. is_same key path) o false) (sym key) ∙ apart))
 
   -- where the path itself stands there, it has that number
   pub same_there : (n : ℕ) → slice_get order rank ≡ Some n → has_at keys n path ≡ true → Some n ≡ number_in keys path
   same_there n there same = cases (number_in keys path) refl (slice_get keys n) refl
-    where
-      false_true : false ≡ true → ⊥
-      false_true h = cc
 
       cases : (o : Option ℕ) → number_in keys path ≡ o → (k : Option PathBytes) → slice_get keys n ≡ k → Some n ≡ o
       cases (Some i) e k is = sym there ∙ at_rank i e
-      cases None e None is = absurd (false_true (sym (ap (λ o. option_map_or (λ key. is_same key path) o false) is) ∙ same))
+      cases None e None is = absurd (false≢true (sym (ap (λ o. option_map_or (λ key. is_same key path) o false) is) ∙ same))
       cases None e (Some other) is =
           let own : path_in keys n ≡ other = get_or_from_slice_get keys n other [] is in
           let here : is_same other path ≡ true = sym (ap (λ o. option_map_or (λ key. is_same key path) o false) is) ∙ same in
-          absurd (false_true (sym (number_none keys path n e (slice_get_within keys n other is)) ∙ ap (λ (p : PathBytes). is_same p path) own ∙ here))
+          absurd (false≢true (sym (number_none keys path n e (slice_get_within keys n other is)) ∙ ap (λ (p : PathBytes). is_same p path) own ∙ here))
 
   -- the number of any place that has the path
   pub guessed : (n : ℕ) → has_at keys n path ≡ true → Some n ≡ number_in keys path
   guessed n same = cases (slice_get keys n) refl
-    where
-      false_true : false ≡ true → ⊥
-      false_true h = cc
 
       cases : (k : Option PathBytes) → slice_get keys n ≡ k → Some n ≡ number_in keys path
-      cases None is = absurd (false_true (sym (ap (λ o. option_map_or (λ key. is_same key path) o false) is) ∙ same))
+      cases None is = absurd (false≢true (sym (ap (λ o. option_map_or (λ key. is_same key path) o false) is) ∙ same))
       cases (Some other) is =
           let own : path_in keys n ≡ other = get_or_from_slice_get keys n other [] is in
           let here : is_same other path ≡ true = sym (ap (λ o. option_map_or (λ key. is_same key path) o false) is) ∙ same in

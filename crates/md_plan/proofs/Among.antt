@@ -3,6 +3,7 @@ use Rattle.std.proofs.Common.{◌≡◌, ℕ, ◌+◌, ◌<◌, ◌≤◌, Bool,
 use Rattle.std.specs.Prelude.{ℤ, nat_lt}
 use Rattle.std.specs.List.{AllByRecursion, list_all, list_any}
 use Rattle.std.proofs.lemmas.List.{at_drop_more, at_drop_all}
+use Rattle.std.proofs.lemmas.Bool.{or_left, or_right}
 use Rattle.md_world.specs.declared.Row.{Row}
 use Rattle.md_world.proofs.Lookups.{by_test}
 use Rattle.md_expr_tree.specs.declared.tree.Test.{Test}
@@ -11,7 +12,7 @@ use Rattle.md_expr_tree.specs.declared.tree.Expr.TheVariants as expr
 use Rattle.md_match.specs.Satisfies.{holds, satisfies}
 use Rattle.md_match.specs.Candidates.{RowSet, everything, narrows, smaller, smallest_from, smallest, union, candidate}
 use Rattle.md_match.proofs.Trees.{satisfies-Test, satisfies-All, satisfies-Any}
-use Rattle.md_index.proofs.Bools.{and_first, and_second, or_first, or_second, or_else}
+use Rattle.md_index.proofs.Bools.{and_first, and_second, or_else, both_true}
 use Rattle.md_plan.specs.Hits.{IsHit, AreHits}
 use Rattle.md_plan.proofs.Trees.{candidate-Test, candidate-Not, candidate-All, candidate-Any}
 
@@ -32,14 +33,11 @@ module _ (size : RowSet → ℕ) (now offset : ℤ) (row : Row) where
   smallest_in [] all = refl
   smallest_in (set ∷ sets) all = smallest_from_in set sets (and_first (set row) (list_all (λ (s : RowSet). s row) sets) all) (and_second (set row) (list_all (λ (s : RowSet). s row) sets) all)
 
-  both : (a b : Bool) → a ≡ true → b ≡ true → a && b ≡ true
-  both a b h k = rw (h, k) refl
-
   all_in : (es : List Expr) → AreHits size now offset row es → list_all (λ is. is) (map (λ e. satisfies now offset e row.attrs) es) ≡ true → list_all (λ (s : RowSet). s row) (map (candidate size now offset) es) ≡ true
   all_in [] hits h = refl
   all_in (e ∷ es) hits h =
       let rest = list_all (λ is. is) (map (λ e. satisfies now offset e row.attrs) es) in
-      both (candidate size now offset e row) (list_all (λ (s : RowSet). s row) (map (candidate size now offset) es)) (hits.0 (and_first (satisfies now offset e row.attrs) rest h)) (all_in es hits.1 (and_second (satisfies now offset e row.attrs) rest h))
+      both_true (candidate size now offset e row) (list_all (λ (s : RowSet). s row) (map (candidate size now offset) es)) (hits.0 (and_first (satisfies now offset e row.attrs) rest h)) (all_in es hits.1 (and_second (satisfies now offset e row.attrs) rest h))
 
   any_in : (es : List Expr) → AreHits size now offset row es → list_any (λ is. is) (map (λ e. satisfies now offset e row.attrs) es) ≡ true → union (map (candidate size now offset) es) row ≡ true
   any_in [] hits h = h
@@ -47,8 +45,8 @@ module _ (size : RowSet → ℕ) (now offset : ℤ) (row : Row) where
       let first = satisfies now offset e row.attrs in
       let rest = list_any (λ is. is) (map (λ e. satisfies now offset e row.attrs) es) in
       by_test first
-      (λ t. or_first (candidate size now offset e row) (union (map (candidate size now offset) es) row) (hits.0 t))
-      (λ t. or_second (candidate size now offset e row) (union (map (candidate size now offset) es) row) (any_in es hits.1 (or_else first rest h t)))
+      (λ t. or_left (candidate size now offset e row) (union (map (candidate size now offset) es) row) (hits.0 t))
+      (λ t. or_right (candidate size now offset e row) (union (map (candidate size now offset) es) row) (any_in es hits.1 (or_else first rest h t)))
 
   test_in : (t : Test) (b : Bool) → holds now offset t row.attrs ≡ true → cond b (λ (r : Row). holds now offset t r.attrs) everything row ≡ true
   test_in t true h = h

@@ -5,7 +5,7 @@ use Rattle.std.specs.Option.{option_map_or}
 use Rattle.std.specs.List.{AllByRecursion, AllPairs}
 use Rattle.std.specs.List.Sorted.{IsStrictlyIncreasing}
 use Rattle.std.proofs.Common.{get_or}
-use Rattle.std.proofs.lemmas.Bool.{eqb-true, eqb-false, eq-eqb, ne_eqb, leb-true, leb-false, ltb-true, ltb-false}
+use Rattle.std.proofs.lemmas.Bool.{eqb-true, eqb-false, eq-eqb, ne_eqb, leb-true, leb-false, ltb-true, ltb-false, false≢true, or_left, or_right}
 use Rattle.std.proofs.lemmas.List.{take_all, at_drop_more, at_drop_all}
 use Rattle.std.proofs.lemmas.List.Kept.{IsStrictlyIncreasing-filter, AllPairs-from_increasing}
 use Rattle.std.proofs.lemmas.Map.Views.{any-filter_same}
@@ -16,13 +16,10 @@ use Rattle.md_value.specs.Values.{is_same}
 use Rattle.md_value.specs.Attrs.{text_content}
 use Rattle.md_index.specs.declared.between.Probe.{Probe}
 use Rattle.md_index.specs.Indexed.{lists, row_between, Adds}
-use Rattle.md_index.proofs.Bools.{or_first, or_second, or_else, or_nothing}
+use Rattle.md_index.proofs.Bools.{or_else, or_nothing}
 use Rattle.md_plan.specs.declared.plan.Plan.{Plan}
 use Rattle.md_plan.specs.Plans.{probe_set, plan_set}
 use Rattle.md_plan.specs.FoundPlaces.{is_in, places_of, size_of, AreAll, IsFound}
-
-none : false ≡ true → ⊥
-none e = cc
 
 -- ---- lists that rise
 
@@ -53,17 +50,17 @@ absent x (y ∷ ys) all p le =
 above : (x : ℕ) (xs : List ℕ) → AllByRecursion (λ y. x < y) xs → (p : ℕ) → lists xs p ≡ true → x < p
 above x xs all p h =
     by_test (leb p x)
-    (λ e. absurd (none (sym (absent x xs all p (leb-true p x e)) ∙ h)))
+    (λ e. absurd (false≢true (sym (absent x xs all p (leb-true p x e)) ∙ h)))
     (λ e. leb-false p x e)
 
 first : (x : ℕ) (xs : List ℕ) → lists (x ∷ xs) x ≡ true
-first x xs = or_first (eqb x x) (lists xs x) (eq-eqb x x refl)
+first x xs = or_left (eqb x x) (lists xs x) (eq-eqb x x refl)
 
 -- two lists that rise and have the same places are one
 one_list : (xs ys : List ℕ) → Rises xs → Rises ys → ((p : ℕ) → lists xs p ≡ lists ys p) → xs ≡ ys
 one_list [] [] r s same = refl
-one_list [] (y ∷ ys) r s same = absurd (none (same y ∙ first y ys))
-one_list (x ∷ xs) [] r s same = absurd (none (sym (same x) ∙ first x xs))
+one_list [] (y ∷ ys) r s same = absurd (false≢true (same y ∙ first y ys))
+one_list (x ∷ xs) [] r s same = absurd (false≢true (sym (same x) ∙ first x xs))
 one_list (x ∷ xs) (y ∷ ys) r s same =
     by_test (eqb x y)
     (λ e.
@@ -278,8 +275,8 @@ module _ (rows : ℕ → Option Row) (all : List ℕ) (are : AreAll rows all) wh
       let least : length (places_of rows all (f q)) ≤ length (places_of rows all (union (map f plans))) =
       fewer_pass (is_in rows (f q)) (is_in rows (union (map f plans)))
       (λ p k.
-      sym (so_far p) ∙ or_second (lists out p) (is_in rows (union (map f (drop i plans))) p)
-      (union_step plans i q p h is ∙ or_first (is_in rows (f q) p) (is_in rows (union (map f (drop (i + 1) plans))) p) k)) all in
+      sym (so_far p) ∙ or_right (lists out p) (is_in rows (union (map f (drop i plans))) p)
+      (union_step plans i q p h is ∙ or_left (is_in rows (f q) p) (is_in rows (union (map f (drop (i + 1) plans))) p) k)) all in
       omega arith
 
   pub union_end : (plans : List Plan) (i : ℕ) (out : List ℕ) → length plans ≤ i

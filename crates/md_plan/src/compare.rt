@@ -13,8 +13,7 @@ use md_index::{Edge, Mark, Probe};
 use md_match::starred;
 use md_text::Key;
 use md_time::{Form, LocalTime};
-use md_value::{Copied, Name, Text};
-use md_world::TEXT_CONTENT;
+use md_value::{Copied, Name, TEXT_CONTENT, Text};
 use std::alloc::{AllocError, Global};
 
 fn low_edge(op: Op, mark: Mark) -> Edge

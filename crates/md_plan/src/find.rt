@@ -10,7 +10,7 @@ ghost use Rattle.md_plan.specs.FoundPlaces.{places_of, size_of, AreAll, IsFound}
 use crate::places::{at_most, fewer, join, joined};
 use crate::plan::Plan;
 use md_index::{Index, Probe};
-use md_world::TEXT_CONTENT;
+use md_value::TEXT_CONTENT;
 use std::alloc::{AllocError, Global};
 
 fn probe_within(

@@ -14,7 +14,7 @@ ghost use Rattle.md_store.specs.Stores.{is_shown};
 ghost use Rattle.md_query.specs.Asked.{newest_of, answered, settled};
 ghost use Rattle.md_query.specs.Reads.{most_reads};
 
-use crate::asking::{self, QueryReply, Ask, Effect};
+use crate::asking::{self, Ask, Effect, QueryReply};
 use crate::reading::read;
 use crate::tables;
 use md_machine::{Reply, Spec};

@@ -8,7 +8,7 @@ ghost use Rattle.md_machine.specs.Answers.{notice_of};
 ghost use Rattle.md_query.specs.Rows.{rows_of};
 
 use md_match::Filter;
-use md_value::{Copied, PlainVec, Path};
+use md_value::{Copied, Path, PlainVec};
 use md_world::{Notice, Part, Row};
 use std::alloc::{AllocError, Global};
 

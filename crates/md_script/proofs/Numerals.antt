@@ -10,10 +10,7 @@ use Rattle.std.proofs.lemmas.Str.{IsUtf8-from_ascii, is_utf8-from_IsUtf8}
 use Rattle.std.proofs.lemmas.Str.Parse.{IsNumeralModel, tells_all_ascii_digits, numerals_by_value}
 use Rattle.md_value.specs.Numerals.{is_numeral}
 use Rattle.md_words.specs.Numbers.{number_in}
-
-same_test : (ds : List ℕ) → all_ascii_digits ds ≡ list_all is_ascii_digit ds
-same_test [] = refl
-same_test (d ∷ ds) = ap (λ b. is_ascii_digit d && b) (same_test ds)
+use Rattle.md_words.proofs.Numerals.{same_test}
 
 own : IsNumeralModel (λ ds. all_ascii_digits ds ≡ true) (digits_value 10)
 own = numerals_by_value (λ ds. all_ascii_digits ds ≡ true) tells_all_ascii_digits

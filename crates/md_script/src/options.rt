@@ -8,7 +8,7 @@ ghost use Rattle.md_script.specs.declared.options.Choice.TheVariants.{In, By};
 
 use crate::lines::{first, split_once, split_word};
 use crate::words::{folder_of, number_of, text_of};
-use md_value::{PlainVec, Name, NameError, Path};
+use md_value::{Name, NameError, Path, PlainVec};
 use md_words::set_once;
 use md_world::SortKey;
 use std::alloc::{AllocError, Global};

@@ -8,7 +8,7 @@ use crate::options::{Options, options_of};
 use crate::words::{expression_of, number_of};
 use md_expr::Expr;
 use md_machine::Batch;
-use md_value::{PlainVec, Path};
+use md_value::{Path, PlainVec};
 use md_world::{NotShown, Order, SortKey};
 use std::alloc::{AllocError, Global};
 

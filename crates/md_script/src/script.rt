@@ -4,7 +4,7 @@ ghost use Rattle.md_script.specs.declared.script.ScriptError.TheVariants.{Memory
 
 use md_expr::Expr;
 use md_machine::Batch;
-use md_value::{PlainVec, Path};
+use md_value::{Path, PlainVec};
 use md_words::Utf8;
 use md_world::Order;
 use std::alloc::{AllocError, AllocFailed};

@@ -7,6 +7,7 @@ use Rattle.std.specs.List.Sorted.{IsPermutation}
 use Rattle.std.proofs.lemmas.List.Elements.{All-from_recursion, recursion_from_All}
 use Rattle.std.proofs.lemmas.List.Sorted.{IsPermutation-refl, IsPermutation-sym, IsPermutation-trans, IsPermutation-cons, All-permutation, list_any-IsPermutation}
 use Rattle.std.proofs.lemmas.Map.Keys.{IsDistinct-head, IsDistinct-tail}
+use Rattle.std.proofs.lemmas.Bool.{false≢true}
 use Rattle.md_value.specs.Values.{PathBytes, is_same}
 use Rattle.md_value.proofs.Orders.{same_refl, before_not_same}
 use Rattle.md_value.proofs.Equals.{attrs_refl}
@@ -22,12 +23,9 @@ use Rattle.md_sort.proofs.Placed.{AreApart, placed_ordered, placed_permuted, set
 pub row_refl : (r : Row) → same_row r r ≡ true
 row_refl r = rw (same_refl r.path, attrs_refl r.attrs) refl
 
-not_true : false ≡ true → ⊥
-not_true e = cc
-
 -- what holds of each row holds of one that is among them
 pub of_one : (P : Row → Type 0) (r : Row) (rows : List Row) → AllByRecursion P rows → list_any (same_row r) rows ≡ true → P r
-of_one P r [] h e = absurd (not_true e)
+of_one P r [] h e = absurd (false≢true e)
 of_one P r (w ∷ rows) h e =
     by_test (same_row r w)
     (λ k. subst P (sym (row_exact r w k)) h.0)
@@ -43,7 +41,7 @@ module _ (order : List SortKey) where
       by_test (list_any (same_row r) rows)
       (λ e.
       let after = of_one (λ w. row_before order r w ≡ true) r rows h e in
-      absurd (not_true (sym (row_not_back order r r after) ∙ after)))
+      absurd (false≢true (sym (row_not_back order r r after) ∙ after)))
       (λ e. e)
 
   same_tails : (x : Row) (xs ys : List Row) → IsOrdered order (x ∷ xs) → IsOrdered order (x ∷ ys) → ((r : Row) → list_any (same_row r) (x ∷ xs) ≡ list_any (same_row r) (x ∷ ys)) → (r : Row) → list_any (same_row r) xs ≡ list_any (same_row r) ys
@@ -57,8 +55,8 @@ module _ (order : List SortKey) where
   -- Two lists in order with the same rows are equal.
   pub same_lists : (xs ys : List Row) → IsOrdered order xs → IsOrdered order ys → ((r : Row) → list_any (same_row r) xs ≡ list_any (same_row r) ys) → xs ≡ ys
   same_lists [] [] hx hy h = refl
-  same_lists [] (y ∷ ys) hx hy h = let k = h y in absurd (not_true (rw (row_refl y) at k))
-  same_lists (x ∷ xs) [] hx hy h = let k = sym (h x) in absurd (not_true (rw (row_refl x) at k))
+  same_lists [] (y ∷ ys) hx hy h = let k = h y in absurd (false≢true (rw (row_refl y) at k))
+  same_lists (x ∷ xs) [] hx hy h = let k = sym (h x) in absurd (false≢true (rw (row_refl x) at k))
   same_lists (x ∷ xs) (y ∷ ys) hx hy h =
       by_test (same_row x y)
       (λ e.
@@ -68,12 +66,12 @@ module _ (order : List SortKey) where
       let rest = same_lists xs ys hx.1 hy.1 (same_tails x xs ys hx hy' h') in
       cc)
       (λ e.
-      let back : same_row y x ≡ false = by_test (same_row y x) (λ k. absurd (not_true (sym e ∙ subst (λ w. same_row x w ≡ true) (sym (row_exact y x k)) (row_refl x)))) (λ k. k) in
+      let back : same_row y x ≡ false = by_test (same_row y x) (λ k. absurd (false≢true (sym e ∙ subst (λ w. same_row x w ≡ true) (sym (row_exact y x k)) (row_refl x)))) (λ k. k) in
       let x_there : list_any (same_row x) ys ≡ true = let k = h x in sym (rw (row_refl x, e) at k) in
       let y_there : list_any (same_row y) xs ≡ true = let k = h y in rw (row_refl y, back) at k in
       let y_first = of_one (λ w. row_before order y w ≡ true) x ys hy.0 x_there in
       let x_first = of_one (λ w. row_before order x w ≡ true) y xs hx.0 y_there in
-      absurd (not_true (sym (row_not_back order x y x_first) ∙ y_first)))
+      absurd (false≢true (sym (row_not_back order x y x_first) ∙ y_first)))
 
   pub is_there : (rows : List Row) → PathsDiffer rows → IsInOrder order rows (in_order order rows)
   is_there [] h = record { same_rows = IsPermutation-refl []; ascends = tt }

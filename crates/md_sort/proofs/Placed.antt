@@ -6,6 +6,7 @@ use Rattle.std.specs.List.Sorted.{IsPermutation, IsPartitionedBy}
 use Rattle.std.proofs.Math.Numerals.{one-add}
 use Rattle.std.proofs.lemmas.List.Sorted.{IsPermutation-sym, IsPermutation-trans, IsPermutation-cons, IsPermutation-middle, IsPermutation-filter_both}
 use Rattle.std.proofs.lemmas.Map.Keys.{IsDistinct-head, IsDistinct-tail, IsDistinct-cons, IsDistinct-IsPermutation}
+use Rattle.std.proofs.lemmas.Bool.{true≢false}
 use Rattle.md_value.specs.Values.{PathBytes, is_same, is_before, same_equiv}
 use Rattle.md_value.proofs.Orders.{same_exact, same_sym_false, before_trans, before_not_same, before_not_back, before_else_after, itself_not_before}
 use Rattle.md_world.specs.declared.Row.{Row}
@@ -181,25 +182,22 @@ others_same p (r ∷ rows) h = rw (same_sym_false p r.path h.0) (ap (λ rest. r 
 apart_same : (p q : PathBytes) (rows : List Row) → is_same p q ≡ true → AreApart p rows → AreApart q rows
 apart_same p q rows e h = subst (λ (x : PathBytes). AreApart x rows) (same_exact p q e) h
 
-not_false : true ≡ false → ⊥
-not_false e = cc
-
 -- a row elsewhere does not have the path that the row at a place has
 other_path : (p q : PathBytes) (rows : List Row) (i : ℕ) → AreApart q rows → has_at rows i p ≡ true → is_same q p ≡ false
-other_path p q [] i apart has = absurd (not_false (sym has))
+other_path p q [] i apart has = absurd (true≢false (sym has))
 other_path p q (r ∷ rows) zero apart has = subst (λ x. is_same q x ≡ false) (same_exact r.path p has) apart.0
 other_path p q (r ∷ rows) (suc i) apart has = other_path p q rows i apart.1 has
 
 -- to remove the row at its place is to take its path out
 pub removed : (p : PathBytes) (rows : List Row) (i : ℕ) → PathsDiffer rows → has_at rows i p ≡ true → remove rows i ≡ without_path rows p
-removed p [] i differ has = absurd (not_false (sym has))
+removed p [] i differ has = absurd (true≢false (sym has))
 removed p (r ∷ rows) zero differ has = rw has (sym (others_same p rows (apart_same r.path p rows has (IsDistinct-head _ r rows differ))))
 removed p (r ∷ rows) (suc i) differ has =
     rw (other_path p r.path rows i (IsDistinct-head _ r rows differ) has) (ap (λ rest. r ∷ rest) (removed p rows i (IsDistinct-tail _ r rows differ) has))
 
 -- the row at a place is there
 pub found_there : (p : PathBytes) (rows : List Row) (i : ℕ) → has_at rows i p ≡ true → has_path rows p ≡ true
-found_there p [] i has = absurd (not_false (sym has))
+found_there p [] i has = absurd (true≢false (sym has))
 found_there p (r ∷ rows) zero has = rw has refl
 found_there p (r ∷ rows) (suc i) has = by_test (is_same r.path p) (λ e. rw e refl) (λ e. rw e (found_there p rows i has))
 
@@ -208,7 +206,7 @@ pub none_out : (p : PathBytes) (rows : List Row) → has_path rows p ≡ false �
 none_out p [] h = refl
 none_out p (r ∷ rows) h =
     by_test (is_same r.path p)
-    (λ e. absurd (not_false (rw e at h)))
+    (λ e. absurd (true≢false (rw e at h)))
     (λ e. rw e (ap (λ rest. r ∷ rest) (none_out p rows (rw e at h))))
 
 pub without_kept : (order : List SortKey) (p : PathBytes) (rows : List Row) → AreKept order rows → AreKept order (without_path rows p)
@@ -223,7 +221,7 @@ pub apart_from : (p : PathBytes) (rows : List Row) → has_path rows p ≡ false
 apart_from p [] h = tt
 apart_from p (r ∷ rows) h =
     by_test (is_same r.path p)
-    (λ e. absurd (not_false (rw e at h)))
+    (λ e. absurd (true≢false (rw e at h)))
     (λ e. (same_sym_false r.path p e, apart_from p rows (rw e at h)))
 
 -- no row of the path is left when it is taken out

@@ -8,6 +8,7 @@ use Rattle.std.proofs.lemmas.List.Sorted.{IsPermutation-refl, IsPermutation-sym,
 use Rattle.std.specs.Option.{option_map_or}
 use Rattle.std.proofs.lemmas.Option.{slice_get_within}
 use Rattle.std.proofs.lemmas.Map.Keys.{IsDistinct-cons, IsDistinct-head, IsDistinct-tail}
+use Rattle.std.proofs.lemmas.Bool.{false≢true}
 use Rattle.md_value.specs.Values.{PathBytes, is_same, is_before}
 use Rattle.md_value.proofs.Orders.{same_refl, same_exact}
 use Rattle.md_world.specs.declared.Row.{Row}
@@ -21,15 +22,12 @@ use Rattle.md_sort.proofs.Totals.{row_not_back}
 use Rattle.md_sort.proofs.Placed.{AreApart, all_at, differ_permuted, apart_without, apart_from, inserted, placed_ordered, placed_permuted, removed, without_kept, none_kept, ordered_filter, before_path}
 use Rattle.md_sort.proofs.Alone.{of_one, row_refl, is_alone, filter_permuted, apart_permuted}
 
-not_true : false ≡ true → ⊥
-not_true e = cc
-
 passes_is : (test : Row → Bool) (o : Option Row) → is_some o ≡ true → passes test o ≡ test (row_or_empty o)
-passes_is test None h = absurd (not_true h)
+passes_is test None h = absurd (false≢true h)
 passes_is test (Some row) h = refl
 
 held_is : (o : Option Row) → is_some o ≡ true → o ≡ Some (row_or_empty o)
-held_is None h = absurd (not_true h)
+held_is None h = absurd (false≢true h)
 held_is (Some row) h = refl
 
 all_inserted : {X : Type 0} (P : X → Type 0) (xs : List X) (i : ℕ) (x : X) → i ≤ length xs → P x → AllByRecursion P xs → AllByRecursion P (insert xs i x)
@@ -104,17 +102,17 @@ module _ (find after : ℕ → Option Row) where
   stay_fresh : (slot : ℕ) → find slot ≡ None → ((other : ℕ) → other ≢ slot → after other ≡ find other) → (slots : List ℕ) → AllHeld find slots → Stay find after slots
   stay_fresh slot none others [] held = tt
   stay_fresh slot none others (s ∷ slots) held =
-      (others s (λ same. not_true (sym (ap (λ o. is_some o) (ap find same ∙ none)) ∙ held.0)), stay_fresh slot none others slots held.1)
+      (others s (λ same. false≢true (sym (ap (λ o. is_some o) (ap find same ∙ none)) ∙ held.0)), stay_fresh slot none others slots held.1)
 
   stay_gone : (slot : ℕ) (row : Row) → find slot ≡ Some row → ((other : ℕ) → other ≢ slot → after other ≡ find other) → (slots : List ℕ) → AreApart row.path (rows_at find slots) → Stay find after slots
   stay_gone slot row there others [] apart = tt
   stay_gone slot row there others (s ∷ slots) apart = (
-    others s (λ same. not_true (sym apart.0 ∙ ap (λ o. is_same row.path (row_or_empty o).path) (ap find same ∙ there) ∙ same_refl row.path)),
+    others s (λ same. false≢true (sym apart.0 ∙ ap (λ o. is_same row.path (row_or_empty o).path) (ap find same ∙ there) ∙ same_refl row.path)),
     stay_gone slot row there others slots apart.1,
   )
 
 not_itself : (order : List SortKey) (row : Row) → row_before order row row ≡ false
-not_itself order row = by_test (row_before order row row) (λ b. absurd (not_true (sym (row_not_back order row row b) ∙ b))) (λ b. b)
+not_itself order row = by_test (row_before order row row) (λ b. absurd (false≢true (sym (row_not_back order row row b) ∙ b))) (λ b. b)
 
 all_there : {X : Type 0} (P : X → Type 0) (xs : List X) (i : ℕ) (x : X) → AllByRecursion P xs → slice_get xs i ≡ Some x → P x
 all_there P [] i x h e = cc
@@ -134,7 +132,7 @@ own_at order row (w ∷ rows) (suc i) h e =
 
 -- a row among rows in order is found at its own place
 pub own_place : (order : List SortKey) (row : Row) (rows : List Row) → IsOrdered order rows → list_any (same_row row) rows ≡ true → slice_get rows (prefix_len (λ other. row_before order other row) rows) ≡ Some row
-own_place order row [] h e = absurd (not_true e)
+own_place order row [] h e = absurd (false≢true e)
 own_place order row (w ∷ rows) h e =
     by_test (same_row row w)
     (λ k.

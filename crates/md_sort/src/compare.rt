@@ -1,43 +1,11 @@
 // Values and rows, compared as sort keys ask.
 ghost use Rattle.std.specs.Prelude.{◌≡◌};
 ghost use Rattle.std.specs.Option.{option_map};
-ghost use Rattle.std.specs.Ordering.{nat_cmp};
-ghost use Rattle.std.specs.Cmp.Lexicographic.{slice_cmp};
-ghost use Rattle.md_world.specs.Orders.{rank, value_cmp, first_value, first_cmp, key_cmp, row_cmp, row_before};
+ghost use Rattle.md_world.specs.Orders.{first_value, first_cmp, key_cmp, row_cmp, row_before};
 
-use md_value::{Name, Text, Value};
-use md_world::{Row, SortKey};
+use md_value::{Name, Value};
+use md_world::{Row, SortKey, value_cmp};
 use std::cmp::Ordering;
-
-// By code points.
-fn text_cmp(a: &Text, b: &Text) -> Ordering
-    ensures { result ≡ slice_cmp nat_cmp a.now b.now }
-{
-    a.as_str().chars().cmp(b.as_str().chars())
-}
-
-fn rank(value: &Value) -> u8
-    ensures { result ≡ rank value.now }
-{
-    match value {
-        Value::Text(_) => 0,
-        Value::Number(_) => 1,
-        Value::Flag(_) => 2,
-        Value::Moment(_) => 3,
-    }
-}
-
-fn value_cmp(a: &Value, b: &Value) -> Ordering
-    ensures { result ≡ value_cmp a.now b.now }
-{
-    match (a, b) {
-        (Value::Text(a), Value::Text(b)) => text_cmp(a, b),
-        (Value::Number(a), Value::Number(b)) => a.cmp(b),
-        (Value::Flag(a), Value::Flag(b)) => a.cmp(b),
-        (Value::Moment(a), Value::Moment(b)) => a.cmp(b),
-        _ => rank(a).cmp(&rank(b)),
-    }
-}
 
 fn first_value<'a>(row: &'a Row, name: &Name) -> Option<&'a Value>
     ensures { option_map (λ value. value.now) result ≡ first_value row.now name.now }

@@ -5,7 +5,7 @@ ghost use Rattle.md_source.specs.Tree.{IsListing, IsContent, entries_of, has_fol
 ghost use Rattle.md_source.specs.Listing.{is_file, is_below, is_ascending, are_ordered, is_ordered};
 
 use crate::Entry;
-use md_value::{HIGH, PlainVec, LOW, Path};
+use md_value::{HIGH, LOW, Path, PlainVec};
 use std::alloc::Global;
 
 fn is_file(entry: &Entry) -> bool

@@ -6,7 +6,7 @@ ghost use Rattle.md_source.specs.Tree.{IsContent, IsListing, has_folder, entries
 
 use crate::failure::Plan;
 use crate::{Entry, ListEnd, ReadEnd, SureTree, Tree};
-use md_value::{PlainVec, Path};
+use md_value::{Path, PlainVec};
 use std::alloc::Global;
 use std::marker::Model;
 

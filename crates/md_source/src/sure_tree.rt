@@ -7,7 +7,7 @@ ghost use Rattle.md_source.specs.declared.tree.ListEnd.TheVariants as list_end;
 ghost use Rattle.md_source.specs.declared.tree.ReadEnd.TheVariants as read_end;
 
 use crate::{Entry, ListEnd, ReadEnd, Tree};
-use md_value::{Copied, PlainVec, Path};
+use md_value::{Copied, Path, PlainVec};
 use std::alloc::{AllocError, Global};
 use std::marker::Model;
 

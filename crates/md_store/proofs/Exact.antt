@@ -3,6 +3,7 @@ use Rattle.std.proofs.Common.{◌≡◌, ℕ, ◌≤◌, Bool, true, false, List
 use Rattle.std.specs.Prelude.{Option, None, Some, ◌==◌, ◌&&◌, ◌||◌, nat_le, find}
 use Rattle.std.specs.List.{list_any, AllByRecursion}
 use Rattle.std.proofs.lemmas.Bool.Decides.{nat_tests}
+use Rattle.std.proofs.lemmas.Bool.{or_right}
 use Rattle.md_world.proofs.Lookups.{by_test}
 use Rattle.md_store.specs.declared.chain.KeptRow.{KeptRow}
 use Rattle.md_store.specs.Chains.{sees, is_before_end, is_seen, seen_of, EndsBy, Precedes, IsOrdered}
@@ -45,11 +46,7 @@ pinned_sees (pin ∷ pins) l h =
     (λ e. let same : (pin == pin) ≡ true = grind (arith, nat_tests) in (pin, rw same refl, e))
     (λ e.
     let rest = pinned_sees pins l (rw e at h) in
-    (rest.0, or_more (pin == rest.0) (list_any (λ p. p == rest.0) pins) rest.1, rest.2))
-  where
-    or_more : (a b : Bool) → b ≡ true → a || b ≡ true
-    or_more true b h = refl
-    or_more false b h = h
+    (rest.0, or_right (pin == rest.0) (list_any (λ p. p == rest.0) pins) rest.1, rest.2))
 
 sees_some : (n : ℕ) (pins : List ℕ) (l : KeptRow) → is_seen n pins l ≡ true → (v : ℕ) × ((v == n) || list_any (λ pin. pin == v) pins ≡ true) × (sees v l ≡ true)
 sees_some n pins l h =
@@ -57,11 +54,7 @@ sees_some n pins l h =
     (λ e. let same : (n == n) ≡ true = grind (arith, nat_tests) in (n, rw same refl, e))
     (λ e.
     let rest = pinned_sees pins l (rw e at h) in
-    (rest.0, or_more (rest.0 == n) (list_any (λ p. p == rest.0) pins) rest.1, rest.2))
-  where
-    or_more : (a b : Bool) → b ≡ true → a || b ≡ true
-    or_more true b h = refl
-    or_more false b h = h
+    (rest.0, or_right (rest.0 == n) (list_any (λ p. p == rest.0) pins) rest.1, rest.2))
 
 passed : (t : KeptRow → Bool) (chain : List KeptRow) → AllByRecursion (λ l. t l ≡ true) (filter t chain)
 passed t [] = tt

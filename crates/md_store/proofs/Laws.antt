@@ -5,9 +5,11 @@ use Rattle.std.specs.Option.{option_map, option_or}
 use Rattle.std.proofs.lemmas.List.Folds.{find-append}
 use Rattle.std.specs.List.{list_any, AllByRecursion}
 use Rattle.std.proofs.lemmas.Bool.Decides.{nat_tests}
+use Rattle.std.proofs.lemmas.Bool.{or_left, or_right}
 use Rattle.md_value.specs.Values.{PathBytes}
 use Rattle.md_world.specs.declared.Row.{Row}
 use Rattle.md_world.proofs.Lookups.{by_test}
+use Rattle.md_world.proofs.Lists.{or_none, all_more, all_filter}
 use Rattle.md_store.specs.declared.chain.KeptRow.{KeptRow}
 use Rattle.md_store.specs.Chains.{sees, is_before_end, seen_in, end_or, end_at, new_row, with_row_at, is_seen, seen_of, EndsBy, Precedes, IsOrdered, IsPastBy, IsKeptRow, IsChain, HasPath}
 
@@ -53,10 +55,6 @@ ended_after v [] h = refl
 ended_after v (l ∷ chain) h =
     let e : sees v (end_at v l) ≡ false = ap (λ b. nat_le l.from v && b) (end_now v l.until h.0) ∙ and_false (nat_le l.from v) in
     rw e (ended_after v chain h.1)
-
-or_none : {A : Type 0} (o : Option A) → option_or o None ≡ o
-or_none None = refl
-or_none (Some x) = refl
 
 -- versions before a commit see what they saw
 pub seen_before : (v w : ℕ) (chain : List KeptRow) (row : Option Row) → w < v → seen_in (with_row_at chain v row) w ≡ seen_in chain w
@@ -133,14 +131,10 @@ ends_now : (v : ℕ) (o : Option ℕ) → IsPastBy v o → EndsBy v (end_or v o)
 ends_now v None h = omega arith
 ends_now v (Some e) h = h
 
-all_one_more : {A : Type 0} (P : A → Type 0) (xs : List A) (x : A) → AllByRecursion P xs → P x → AllByRecursion P (xs ++ x ∷ [])
-all_one_more P [] x h one = (one, tt)
-all_one_more P (y ∷ xs) x h one = (h.0, all_one_more P xs x h.1 one)
-
 ordered_new : (p : PathBytes) (v : ℕ) (chain : List KeptRow) (r : Row) → AllByRecursion (IsKeptRow p v) chain → IsOrdered chain → IsOrdered (map (end_at v) chain ++ new_row v r ∷ [])
 ordered_new p v [] r k h = (tt, tt)
 ordered_new p v (l ∷ chain) r k h =
-    (all_one_more (Precedes (end_at v l)) (map (end_at v) chain) (new_row v r) (all_ended v l chain h.0) (record { from = k.0.from; until = ends_now v l.until k.0.until }), ordered_new p v chain r k.1 h.1)
+    (all_more (Precedes (end_at v l)) (map (end_at v) chain) (new_row v r) (all_ended v l chain h.0) (record { from = k.0.from; until = ends_now v l.until k.0.until }), ordered_new p v chain r k.1 h.1)
 
 -- a commit keeps the rows of its path in order
 pub chain_commit : (p : PathBytes) (n v : ℕ) (chain : List KeptRow) (row : Option Row) → n ≤ v → HasPath p row → IsChain p n chain → IsChain p v (with_row_at chain v row)
@@ -148,19 +142,12 @@ chain_commit p n v chain None le own h =
     record { rows = lives_ended p v chain (lives_more p n v chain le h.rows); ordered = ordered_ended v chain h.ordered }
 chain_commit p n v chain (Some r) le own h =
     record {
-      rows = all_one_more (IsKeptRow p v) (map (end_at v) chain) (new_row v r) (lives_ended p v chain (lives_more p n v chain le h.rows)) (record { path = own; from = omega arith; until = tt });
+      rows = all_more (IsKeptRow p v) (map (end_at v) chain) (new_row v r) (lives_ended p v chain (lives_more p n v chain le h.rows)) (record { path = own; from = omega arith; until = tt });
       ordered = ordered_new p v chain r (lives_more p n v chain le h.rows) h.ordered;
     }
 
 pub chain_more : (p : PathBytes) (n v : ℕ) (chain : List KeptRow) → n ≤ v → IsChain p n chain → IsChain p v chain
 chain_more p n v chain le h = record { rows = lives_more p n v chain le h.rows; ordered = h.ordered }
-
-all_filter : {A : Type 0} (P : A → Type 0) (t : A → Bool) (xs : List A) → AllByRecursion P xs → AllByRecursion P (filter t xs)
-all_filter P t [] h = tt
-all_filter P t (x ∷ xs) h =
-    by_test (t x)
-    (λ b. rw b (h.0, all_filter P t xs h.1))
-    (λ b. rw b (all_filter P t xs h.1))
 
 pub ordered_filter : (t : KeptRow → Bool) (chain : List KeptRow) → IsOrdered chain → IsOrdered (filter t chain)
 ordered_filter t [] h = tt
@@ -182,14 +169,6 @@ find_filter p t (x ∷ xs) h =
     (λ b. by_test (t x)
     (λ k. rw (k, b) (find_filter p t xs h))
     (λ k. rw (k, b) (find_filter p t xs h)))
-
-or_left : (a b : Bool) → a ≡ true → a || b ≡ true
-or_left true b h = refl
-or_left false b h = cc
-
-or_right : (a b : Bool) → b ≡ true → a || b ≡ true
-or_right true b h = refl
-or_right false b h = h
 
 any_pin : (w : ℕ) (pins : List ℕ) (l : KeptRow) → list_any (λ pin. pin == w) pins ≡ true → sees w l ≡ true → list_any (λ v. sees v l) pins ≡ true
 any_pin w [] l h e = cc

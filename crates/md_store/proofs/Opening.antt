@@ -7,10 +7,12 @@ use Rattle.std.specs.Ordering.{nat_cmp, is_eq}
 use Rattle.std.specs.Map.{lookup, remove_entry}
 use Rattle.std.specs.BTreeMap.{insert_entry, is_at}
 use Rattle.std.proofs.lemmas.Bool.Decides.{nat_tests}
+use Rattle.std.proofs.lemmas.Bool.{true≢false}
 use denote.Ref.{Bor}
 use Rattle.md_value.specs.Values.{PathBytes}
 use Rattle.md_world.specs.Tickets.{Ticket, ticket_at, without_ticket}
 use Rattle.md_world.proofs.Lookups.{by_test}
+use Rattle.md_world.proofs.Lists.{all_more}
 use Rattle.md_store.specs.Open.{with_path, tickets_of, AreDrawn}
 
 -- a number is compared to a key as the tickets' own test does
@@ -79,16 +81,12 @@ was_open (pair ∷ pairs) n =
     (λ b. rw (key_at n pair.0 ∙ b, b) refl)
     (λ b. rw (key_at n pair.0 ∙ b, b) (was_open pairs n))
 
-all_one_more : {A : Type 0} (P : A → Type 0) (xs : List A) (x : A) → AllByRecursion P xs → P x → AllByRecursion P (xs ++ x ∷ [])
-all_one_more P [] x h one = (one, tt)
-all_one_more P (y ∷ xs) x h one = (h.0, all_one_more P xs x h.1 one)
-
 -- one more that is drawn
 pub drawn_more : (tickets : List Ticket) (drawn : ℕ) (p : PathBytes) → AreDrawn drawn tickets → AreDrawn (drawn + 1) (tickets ++ with_path (drawn + 1) p ∷ [])
 drawn_more [] drawn p h = (omega arith, tt, tt)
 drawn_more (t ∷ tickets) drawn p h =
     let le = h.0 in
-    (omega arith, all_one_more (λ (later : Ticket). t.number < later.number) tickets (with_path (drawn + 1) p) h.1 (omega arith), drawn_more tickets drawn p h.2)
+    (omega arith, all_more (λ (later : Ticket). t.number < later.number) tickets (with_path (drawn + 1) p) h.1 (omega arith), drawn_more tickets drawn p h.2)
 
 all_without : (P : Ticket → Type 0) (tickets : List Ticket) (n : ℕ) → AllByRecursion P tickets → AllByRecursion P (without_ticket tickets n)
 all_without P [] n h = tt
@@ -125,8 +123,5 @@ pub none_open : (tickets : List Ticket) (number : ℕ) → is_some (ticket_at ti
 none_open [] number h = refl
 none_open (t ∷ tickets) number h =
     by_test (t.number == number)
-    (λ b. absurd (true_false (rw b at h)))
+    (λ b. absurd (true≢false (rw b at h)))
     (λ b. rw b (ap (λ rest. t ∷ rest) (none_open tickets number (rw b at h))))
-  where
-    true_false : true ≡ false → ⊥
-    true_false h = cc

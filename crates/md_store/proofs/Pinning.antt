@@ -7,6 +7,7 @@ use Rattle.std.specs.List.Sorted.{IsPartitionedBy, IsPartitionPoint}
 use Rattle.std.proofs.Math.Numerals.{one-add}
 use Rattle.std.proofs.lemmas.Bool.Decides.{nat_tests}
 use Rattle.std.proofs.lemmas.List.Sums.{prefix_len_is}
+use Rattle.std.proofs.lemmas.Bool.{false≢true}
 use Rattle.md_world.proofs.Lookups.{by_test}
 use Rattle.md_store.specs.declared.chain.KeptRow.{KeptRow}
 use Rattle.md_store.specs.Chains.{sees, is_before_end}
@@ -63,10 +64,7 @@ first_is : (p v : ℕ) (pins : List ℕ) → nat_lt p v ≡ false → AllByRecur
 first_is p v pins b h k =
     by_test (p == v)
     (λ e. e)
-    (λ e. let lt : v < p = grind (arith, nat_tests) in absurd (false_true (sym (never_later p v pins lt h) ∙ rw e at k)))
-  where
-    false_true : false ≡ true → ⊥
-    false_true h = cc
+    (λ e. let lt : v < p = grind (arith, nat_tests) in absurd (false≢true (sym (never_later p v pins lt h) ∙ rw e at k)))
 
 -- a pinned version has its first pin at its place
 pub removed : (pins : List ℕ) (v : ℕ) → Ascend pins → is_pinned pins v ≡ true → remove pins (below pins v) ≡ without_pin pins v

@@ -13,6 +13,7 @@ use Rattle.md_world.specs.Holding.{with_rows}
 use Rattle.md_world.specs.Tickets.{with_stamp}
 use Rattle.md_world.proofs.Lookups.{by_test, some_inj, same_tables, at-with_row, at-after}
 use Rattle.md_world.proofs.Tables.{table_with_rows, table_after}
+use Rattle.md_world.proofs.Lists.{or_none}
 use Rattle.md_store.specs.declared.chain.KeptRow.{KeptRow}
 use Rattle.md_store.specs.Chains.{sees, seen_in, with_row_at, is_seen, end_at, IsKeptRow, IsChain, HasPath, one_if}
 use Rattle.md_store.specs.Places.{Place, place_in, next_place, row_before, rows_seen, table_at, kept_of, with_commit, places_seen, stamps_of, ArePlaces}
@@ -85,10 +86,6 @@ at_seen : (n v : ℕ) (p : PathBytes) (places : List Place) → ArePlaces n plac
 at_seen n v p [] h held = refl
 at_seen n v p (x ∷ places) h held =
     seen_or held p x.path places v (seen_in x.rows v) (λ r e. seen_path x.path n v x.rows r h.0.rows e) h.1 (at_seen n v p places h.2)
-
-or_none : {A : Type 0} (o : Option A) → option_or o None ≡ o
-or_none None = refl
-or_none (Some x) = refl
 
 -- what a version's table has at a path
 pub at-table : (n v : ℕ) (p : PathBytes) (places : List Place) → ArePlaces n places → at (table_at places v) p ≡ looked places v p

@@ -1,6 +1,6 @@
 // The words of commands.
 use md_rows::{Field, RowError};
-use md_value::{PlainVec, Name, Path};
+use md_value::{Name, Path, PlainVec};
 use md_words::{Command, Mode, Tool, Utf8, WordsError, read_words};
 use std::alloc::{AllocError, Global};
 

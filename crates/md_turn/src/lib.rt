@@ -11,15 +11,15 @@
 //! follows of it. Nothing is said of who is served when, nor that waiting ends.
 #![tactic(auto)]
 
-mod journaled;
 mod journal;
+mod journaled;
 pub mod laws;
 mod pass;
 mod rule;
 mod steps;
 mod turn;
 
-pub use journaled::Core;
 pub use journal::JournalEntry;
+pub use journaled::Core;
 pub use pass::Pass;
 pub use turn::{Refused, Turn};

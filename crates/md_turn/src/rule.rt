@@ -1,8 +1,8 @@
 //! The rule that the lock keeps, and the names of its steps.
 ghost use Rattle.std.specs.Prelude.{ℕ};
 
-use crate::journaled::{Core, Journaled};
 use crate::journal::JournalEntry;
+use crate::journaled::{Core, Journaled};
 use atomic_table::{Join, Play, Seat, Split, Table, TableRule};
 use std::alloc::Global;
 use std::collections::LinkedList;

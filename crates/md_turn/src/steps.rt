@@ -7,8 +7,8 @@ ghost use Rattle.md_turn.specs.Journal.{entry, after, IsPrefix, shorter, longer}
 ghost use Rattle.md_turn.specs.Turns.{view, resting, made, Takes, cut, cut_off, joined, whole_share, Closes};
 ghost use Rattle.md_turn.specs.Acts.{journal_of, state_of, Carries, Rests, Acted, Unacted};
 
-use crate::journaled::{Core, Journaled};
 use crate::journal::JournalEntry;
+use crate::journaled::{Core, Journaled};
 use crate::rule::{
     Amount, Both, Compare, Cut, Draw, Leave, Look, Opening, Refuse, TurnSeat, TurnTable,
 };

@@ -1,6 +1,6 @@
 //! The lock, and its calls.
-use crate::journaled::{Core, Journaled};
 use crate::journal::JournalEntry;
+use crate::journaled::{Core, Journaled};
 use crate::pass::Pass;
 use crate::rule::TurnTable;
 use crate::steps::{act_by, close_by, cut_by, join_by};

@@ -9,7 +9,8 @@ use Rattle.std.proofs.lemmas.Str.Parse.{tells_all_ascii_digits, numerals_by_valu
 use Rattle.md_value.specs.Numerals.{is_numeral}
 use Rattle.md_words.specs.Numbers.{number_in}
 
-same_test : (ds : List ℕ) → all_ascii_digits ds ≡ list_all is_ascii_digit ds
+-- both tests of digits are the same
+pub same_test : (ds : List ℕ) → all_ascii_digits ds ≡ list_all is_ascii_digit ds
 same_test [] = refl
 same_test (d ∷ ds) = ap (λ b. is_ascii_digit d && b) (same_test ds)
 

@@ -3,7 +3,7 @@ ghost use Rattle.std.specs.Prelude.{◌≡◌};
 ghost use Rattle.md_words.specs.declared.command.WordsError.TheVariants.{Memory};
 
 use crate::Utf8;
-use md_value::{PlainVec, Name, Path};
+use md_value::{Name, Path, PlainVec};
 use std::alloc::AllocError;
 
 /// What the words ask for.

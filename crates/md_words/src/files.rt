@@ -4,7 +4,7 @@ ghost use Rattle.std.specs.List.{list_any};
 ghost use Rattle.md_words.specs.Words.{texts, path_of, paths_of, files_of, files_below_root, is_root};
 
 use crate::word::first_word;
-use md_value::{PlainVec, Path, PathError};
+use md_value::{Path, PathError, PlainVec};
 use std::alloc::{AllocError, Global};
 
 /// The path that a word writes. It may be the root.
@@ -62,7 +62,10 @@ fn below_root(files: PlainVec<Path>) -> Option<PlainVec<Path>>
 
 /// The paths of one file or more, none of which is the root.
 #[tactic(auto, unfolding(crate::specs::Words::files_below_root))]
-pub fn files_below_root(alloc: Global, words: &[String]) -> Result<Option<PlainVec<Path>>, AllocError>
+pub fn files_below_root(
+    alloc: Global,
+    words: &[String],
+) -> Result<Option<PlainVec<Path>>, AllocError>
     ensures { IfOk result (λ files. files ≡ files_below_root (texts words.now)) }
 {
     match files_of(alloc, words)? {

@@ -8,7 +8,7 @@ ghost use Rattle.md_words.specs.Options.{no_options, with_raw, joined, options_f
 use crate::Utf8;
 use crate::once::set_flag;
 use crate::word::{begins_with_dash, first_word};
-use md_value::{PlainVec, Name, NameError};
+use md_value::{Name, NameError, PlainVec};
 use std::alloc::{AllocError, Global};
 
 /// What the options of `mdls` say.

@@ -12,7 +12,7 @@ use crate::numbers::number_in;
 use crate::options::{Options, options_of};
 use crate::word::{begins_with_dash, first_word, spaced};
 use crate::{Mode, Tool, Utf8};
-use md_value::{PlainVec, Path};
+use md_value::{Path, PlainVec};
 use std::alloc::{AllocError, Global};
 
 /// The most files that `gen` makes.

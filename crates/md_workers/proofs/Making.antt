@@ -15,6 +15,7 @@ use Rattle.md_pool.specs.Claims.{within}
 use Rattle.md_world.proofs.Lookups.{by_test, some_inj}
 use Rattle.std.proofs.lemmas.Bool.{ltb-true, ltb-false}
 use Rattle.md_merge.proofs.Actors.{ends_more, ends_past}
+use Rattle.md_merge.proofs.Joined.{events-append}
 use Rattle.md_workers.specs.Actors.{HasMade}
 
 pub made_none : (p : Known) → HasMade p p []
@@ -25,16 +26,12 @@ later_both n m [] [] le xs ys = tt
 later_both n m [] (y ∷ rest) le xs ys = (let above = ys.0 in omega arith, later_both n m [] rest le xs ys.1)
 later_both n m (x ∷ rest) more le xs ys = (xs.0, later_both n m rest more le xs.1 ys)
 
-events_both : (xs ys : List JournalEntry) → events_in (xs ++ ys) ≡ events_in xs ++ events_in ys
-events_both [] ys = refl
-events_both (x ∷ xs) ys = ap (λ (events : List Event). x.event ∷ events) (events_both xs ys)
-
 pub made_more : (a b c : Known) (before more : List Event) → HasMade a b before → HasMade b c more → HasMade a c (before ++ more)
 made_more a b c before more h k =
     record {
       gained = h.gained ++ k.gained;
       own = k.own ∙ ap (λ (own : List JournalEntry). own ++ k.gained) h.own ∙ append_assoc a.own h.gained k.gained;
-      events_are = events_both h.gained k.gained ∙ ap (λ (events : List Event). events ++ events_in k.gained) h.events_are ∙ ap (λ (events : List Event). before ++ events) k.events_are;
+      events_are = events-append h.gained k.gained ∙ ap (λ (events : List Event). events ++ events_in k.gained) h.events_are ∙ ap (λ (events : List Event). before ++ events) k.events_are;
       later = (let first = h.seen in later_both (length a.seen) (length b.seen) h.gained k.gained (omega arith) h.later k.later);
       seen = (let first = h.seen in let next = k.seen in let both = length-append h.gained k.gained in omega arith);
     }

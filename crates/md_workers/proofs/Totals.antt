@@ -190,10 +190,6 @@ module _ {A B : Type 0} where
       both [] = one (f x)
       both (y ∷ ys) = ap (cons_option (f y)) (both ys) ∙ put (f y) (filter_map f ys) (option_to_list (f x))
 
-pub all_more : {A : Type 0} (P : A → Type 0) (xs : List A) (x : A) → AllByRecursion P xs → P x → AllByRecursion P (xs ++ x ∷ [])
-all_more P [] x h own = (own, tt)
-all_more P (y ∷ ys) x h own = (h.0, all_more P ys x h.1 own)
-
 -- what calls in threads give, in pairs with their jobs
 module _ {F J R : Type 0} (g : Shared F (J × Unit {0}) R) (f : F) (P : J → R → Type 0) (says : (x : J) (r : R) → FnReturns g f (x, tt) r → P x r) where
   pub gives_pairs : (js : List J) (rs : List R) → length rs ≡ length js → GivesJobs g f js rs → InPairs P js rs

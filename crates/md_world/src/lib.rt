@@ -7,15 +7,14 @@ ghost use Rattle.md_world.specs.Tables.{shown, same_row};
 mod laws;
 mod order;
 mod steps;
+mod values;
 
 pub use laws::limits_are_standard;
-use md_value::{Attrs, Copied, PlainVec, Path};
+use md_value::{Attrs, Copied, Path, PlainVec, TEXT_CONTENT};
 pub use order::{NotShown, Order, SortKey};
 use std::alloc::{AllocError, Global};
 pub use steps::Steps;
-
-/// The attribute that is searched and not shown.
-pub const TEXT_CONTENT: &str = "kMDItemTextContent";
+pub use values::value_cmp;
 
 /// A file's path with its attributes.
 #[derive(Debug, Drop)]

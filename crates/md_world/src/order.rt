@@ -5,8 +5,7 @@ ghost use Rattle.md_value.specs.Values.{is_same};
 ghost use Rattle.md_value.specs.Attrs.{text_content};
 ghost use Rattle.md_world.specs.Orders.{names_content};
 
-use crate::TEXT_CONTENT;
-use md_value::{Copied, PlainVec, Name};
+use md_value::{Copied, Name, PlainVec, TEXT_CONTENT};
 use std::alloc::{AllocError, Global};
 use std::marker::Model;
 

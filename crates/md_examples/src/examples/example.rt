@@ -102,7 +102,11 @@ impl Parts {
     }
 }
 
-fn set_once<T: Drop>(place: &mut Option<T>, section: &Section, value: T) -> Result<(), ExampleError> {
+fn set_once<T: Drop>(
+    place: &mut Option<T>,
+    section: &Section,
+    value: T,
+) -> Result<(), ExampleError> {
     if place.is_some() {
         return Err(section.error("the section stands twice"));
     }

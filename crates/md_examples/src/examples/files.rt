@@ -4,14 +4,18 @@ use crate::examples::error::ExampleError;
 use crate::examples::header::{FileSetting, Settings, push_folders};
 use md_rows::turns_of;
 use md_source::Entry;
-use md_value::{PlainVec, Path, PathError};
+use md_value::{Path, PathError, PlainVec};
 use std::alloc::{AllocError, Global};
 
 /// A file of the tree.
 pub type File = (Entry, PlainVec<u8>);
 
 /// The file of a section `file PATH`.
-pub fn file_of(alloc: Global, section: &Section, settings: &Settings) -> Result<File, ExampleError> {
+pub fn file_of(
+    alloc: Global,
+    section: &Section,
+    settings: &Settings,
+) -> Result<File, ExampleError> {
     let name = section.name(alloc)?;
     file_at(alloc, section, settings, &name)
 }
@@ -64,7 +68,11 @@ pub fn push_numbered(
 }
 
 /// Puts the files in the order of their paths, and adds the folders that they stand in.
-pub fn finish(alloc: Global, files: &mut Vec<File>, settings: &mut Settings) -> Result<(), ExampleError> {
+pub fn finish(
+    alloc: Global,
+    files: &mut Vec<File>,
+    settings: &mut Settings,
+) -> Result<(), ExampleError> {
     files.sort_unstable_by(|(entry, _), (other, _)| entry.path.as_str().cmp(other.path.as_str()));
     for (entry, _) in files.iter() {
         push_folders(alloc, entry.path.as_str(), &mut settings.folders)?;

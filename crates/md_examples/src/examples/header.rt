@@ -123,7 +123,12 @@ impl Settings {
     }
 
     // Sets how many bytes a call of an object takes or gives.
-    fn set_piece(&mut self, line: &HeaderLine, name: &str, value: &str) -> Result<(), ExampleError> {
+    fn set_piece(
+        &mut self,
+        line: &HeaderLine,
+        name: &str,
+        value: &str,
+    ) -> Result<(), ExampleError> {
         let (object, piece) = line.two_words(value)?;
         let piece = match piece.parse::<u32>() {
             Ok(piece) if piece > 0 => piece as usize,
@@ -167,7 +172,11 @@ impl Fails {
 }
 
 /// Adds the folders that a path stands in. Where one is there already, so are those that it stands in.
-pub fn push_folders(alloc: Global, path: &str, folders: &mut Vec<Path>) -> Result<(), ExampleError> {
+pub fn push_folders(
+    alloc: Global,
+    path: &str,
+    folders: &mut Vec<Path>,
+) -> Result<(), ExampleError> {
     let mut rest = path;
     for _ in 0..path.len() {
         match rest.rsplit_once('/') {

@@ -1,7 +1,7 @@
 // Runs of the top call over objects in memory.
 use crate::examples::comparing::Printed;
-use crate::examples::example::Example;
 use crate::examples::error::ExampleError;
+use crate::examples::example::Example;
 use crate::examples::header::Stream;
 use md_source::{
     Clock, MemoryClock, MemorySink, MemorySource, MemoryTree, Sink, Source, Tree, is_content,
@@ -12,7 +12,11 @@ use std::alloc::Global;
 use std::thread::Threads;
 
 /// Runs an example, and says where it differs from what is wanted.
-pub fn check<R: Threads + Sync>(rt: &R, alloc: Global, text: &str) -> Result<Vec<String>, ExampleError> {
+pub fn check<R: Threads + Sync>(
+    rt: &R,
+    alloc: Global,
+    text: &str,
+) -> Result<Vec<String>, ExampleError> {
     let example = Example::read(alloc, text)?;
     match example.settings.fails.each {
         None => differences(rt, alloc, example),

@@ -5,7 +5,8 @@ use Rattle.std.specs.Cmp.Lexicographic.{slice_cmp}
 use Rattle.md_world.specs.Orders.{value_cmp}
 use Rattle.md_index.specs.States.{state_in, named_state, is_on}
 use Rattle.md_index.proofs.Exact.{exact_name}
-use Rattle.md_index.proofs.Updates.{updated, nothing, not_some}
+use Rattle.std.proofs.lemmas.Bool.{false≢true}
+use Rattle.md_index.proofs.Updates.{updated, nothing}
 use Rattle.md_index.proofs.names.promise.Goals as goal
 
 pub returns-in-Some-clause-same : goal.returns-in-Some-clause-same
@@ -27,4 +28,4 @@ returns-clause-same c n v p =
 pub returns-clause-keeps : goal.returns-clause-keeps
 returns-clause-keeps c n v p =
     updated (slice_cmp nat_cmp) exact_name c.args.names.now c.insert.new.self c.args.fact.now.name None (Some c.promise-2.new.values) (search rules) (search rules)
-    (λ here o m. is_some (named_state o v p) ≡ true → is_some (named_state m v p) ≡ true) (λ h. absurd (not_some h)) (λ o h. h) n
+    (λ here o m. is_some (named_state o v p) ≡ true → is_some (named_state m v p) ≡ true) (λ h. absurd (false≢true h)) (λ o h. h) n

@@ -5,7 +5,8 @@ use Rattle.md_world.proofs.Lookups.{by_test}
 use Rattle.md_index.specs.declared.places.Places.TheVariants.{One}
 use Rattle.md_index.specs.States.{one_state, state_in, is_on}
 use Rattle.md_index.proofs.Exact.{exact_value}
-use Rattle.md_index.proofs.Updates.{updated, not_some}
+use Rattle.std.proofs.lemmas.Bool.{false≢true}
+use Rattle.md_index.proofs.Updates.{updated}
 use Rattle.md_index.proofs.values.promise.Goals as goal
 
 pub returns-in-Some-clause-same : goal.returns-in-Some-clause-same
@@ -30,4 +31,4 @@ returns-clause-same c v p =
 pub returns-clause-keeps : goal.returns-clause-keeps
 returns-clause-keeps c v p =
     updated value_cmp exact_value c.args.values.now c.insert.new.self c.args.indexed.now None (Some (One c.args.place false)) (search rules) (search rules)
-    (λ here o m. is_some (state_in o p) ≡ true → is_some (state_in m p) ≡ true) (λ h. absurd (not_some h)) (λ o h. h) v
+    (λ here o m. is_some (state_in o p) ≡ true → is_some (state_in m p) ≡ true) (λ h. absurd (false≢true h)) (λ o h. h) v

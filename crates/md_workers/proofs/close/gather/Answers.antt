@@ -1,7 +1,8 @@
 use Rattle.std.proofs.Common.{◌≡◌, false, List, [], ◌∷◌, ◌++◌, sym, ◌∙◌, ap, append_assoc}
 use Rattle.std.specs.Vec.Iter.{into_iter_items}
+use Rattle.md_world.proofs.Lists.{all_more}
 use Rattle.md_workers.specs.declared.actor.Ended.{Ended}
-use Rattle.md_workers.proofs.Totals.{kept_more, some_more, all_more}
+use Rattle.md_workers.proofs.Totals.{kept_more, some_more}
 use Rattle.md_workers.proofs.close.gather.Goals as goal
 
 pub loop-actor-preserved : goal.loop-actor-preserved

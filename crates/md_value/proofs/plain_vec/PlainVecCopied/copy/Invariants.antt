@@ -1,5 +1,5 @@
 use Rattle.std.proofs.Common.{◌≡◌, take}
-use Rattle.md_value.proofs.plain_vec.ItemsCopied.copy.Given as goal
+use Rattle.md_value.proofs.plain_vec.PlainVecCopied.copy.Given as goal
 
 abbrev pub invariant-loop-item : goal.invariant-loop-item
 invariant-loop-item g l = l.items.items ≡ take l.item-index l.self
