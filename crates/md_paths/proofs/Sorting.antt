@@ -143,7 +143,7 @@ module _ (keys : List PathBytes) (order : List ℕ) (path : PathBytes) (sorted :
   -- where the path itself stands there, it has that number
   pub same_there : (n : ℕ) → slice_get order rank ≡ Some n → has_at keys n path ≡ true → Some n ≡ number_in keys path
   same_there n there same = cases (number_in keys path) refl (slice_get keys n) refl
-
+    where
       cases : (o : Option ℕ) → number_in keys path ≡ o → (k : Option PathBytes) → slice_get keys n ≡ k → Some n ≡ o
       cases (Some i) e k is = sym there ∙ at_rank i e
       cases None e None is = absurd (false≢true (sym (ap (λ o. option_map_or (λ key. is_same key path) o false) is) ∙ same))
@@ -155,7 +155,7 @@ module _ (keys : List PathBytes) (order : List ℕ) (path : PathBytes) (sorted :
   -- the number of any place that has the path
   pub guessed : (n : ℕ) → has_at keys n path ≡ true → Some n ≡ number_in keys path
   guessed n same = cases (slice_get keys n) refl
-
+    where
       cases : (k : Option PathBytes) → slice_get keys n ≡ k → Some n ≡ number_in keys path
       cases None is = absurd (false≢true (sym (ap (λ o. option_map_or (λ key. is_same key path) o false) is) ∙ same))
       cases (Some other) is =
