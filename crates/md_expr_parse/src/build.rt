@@ -9,29 +9,29 @@ ghost use Rattle.md_expr_parse.specs.Machine.{closed, signed, run};
 ghost use Rattle.md_expr_parse.specs.Resume.{resume};
 
 use md_expr_tree::{Expr, Item};
-use sqlite_items::{Boxed, PlainVec};
+use sqlite_items::{Boxed, Items};
 use std::alloc::{AllocError, Global};
 
 /// An expression that is not over, up to the group that is open in it.
 #[derive(Drop)]
 pub struct Level {
-    ors: PlainVec<Expr>,
-    ands: PlainVec<Expr>,
+    ors: Items<Expr>,
+    ands: Items<Expr>,
     negated: bool,
 }
 
 /// What has been read so far. The innermost open group is last in `outer`.
 #[derive(Drop)]
 pub struct Builder {
-    outer: PlainVec<Level>,
-    ors: PlainVec<Expr>,
-    ands: PlainVec<Expr>,
+    outer: Items<Level>,
+    ors: Items<Expr>,
+    ands: Items<Expr>,
     /// A unit has just ended.
     ready: bool,
 }
 
 #[tactic(auto, using(crate::proofs::Chains::all_of_one, crate::proofs::Chains::all_of_more))]
-fn all_of(list: PlainVec<Expr>) -> Expr
+fn all_of(list: Items<Expr>) -> Expr
     ensures { result ≡ all_of list }
 {
     let mut list = list;
@@ -45,7 +45,7 @@ fn all_of(list: PlainVec<Expr>) -> Expr
 }
 
 #[tactic(auto, using(crate::proofs::Chains::any_of_one, crate::proofs::Chains::any_of_more))]
-fn any_of(list: PlainVec<Expr>) -> Expr
+fn any_of(list: Items<Expr>) -> Expr
     ensures { result ≡ any_of list }
 {
     let mut list = list;
@@ -58,7 +58,7 @@ fn any_of(list: PlainVec<Expr>) -> Expr
     }
 }
 
-fn closed(ors: PlainVec<Expr>, ands: PlainVec<Expr>) -> Result<Expr, AllocError>
+fn closed(ors: Items<Expr>, ands: Items<Expr>) -> Result<Expr, AllocError>
     ensures { IfOk result (λ e. e ≡ closed ors ands) }
 {
     let mut ors = ors;
@@ -81,9 +81,9 @@ impl Builder {
         ensures { (is : List Item) → resume result is ≡ run false [] [] [] is }
     {
         Builder {
-            outer: PlainVec::new(alloc),
-            ors: PlainVec::new(alloc),
-            ands: PlainVec::new(alloc),
+            outer: Items::new(alloc),
+            ors: Items::new(alloc),
+            ands: Items::new(alloc),
             ready: false,
         }
     }
@@ -118,8 +118,8 @@ impl Builder {
         outer.push(Level { ors, ands, negated })?;
         Ok(Builder {
             outer,
-            ors: PlainVec::new(alloc),
-            ands: PlainVec::new(alloc),
+            ors: Items::new(alloc),
+            ands: Items::new(alloc),
             ready: false,
         })
     }
@@ -137,7 +137,7 @@ impl Builder {
         Ok(Builder {
             outer,
             ors,
-            ands: PlainVec::new(alloc),
+            ands: Items::new(alloc),
             ready: false,
         })
     }

@@ -9,7 +9,7 @@ use crate::words::{characters, is_blank, is_word, text_of, word_count};
 use md_expr_parse::{MOST_COMPARISONS, ReadError};
 use md_expr_tree::{Expr, Literal, Op, Subject, Test};
 use md_value::{Memory, Name, NameError, PlainVec as Pieces, Text};
-use sqlite_items::PlainVec;
+use sqlite_items::Items;
 use std::alloc::{AllocError, Global};
 
 /// The most bytes of an expression's text, and of a plain search text.
@@ -52,10 +52,10 @@ fn word_test(alloc: Global, word: &[char]) -> Result<Expr, AllocError>
 }
 
 /// The tests of a text's words.
-fn tests(alloc: Global, text: &[char]) -> Result<PlainVec<Expr>, AllocError>
+fn tests(alloc: Global, text: &[char]) -> Result<Items<Expr>, AllocError>
     ensures { IfOk result (λ es. es ≡ map word_test (words_of text.now)) }
 {
-    let mut tests = PlainVec::new(alloc);
+    let mut tests = Items::new(alloc);
     for part in text.split(|c| is_blank(*c)) {
         if is_word(part) {
             tests.push(word_test(alloc, part)?)?;
@@ -64,7 +64,7 @@ fn tests(alloc: Global, text: &[char]) -> Result<PlainVec<Expr>, AllocError>
     Ok(tests)
 }
 
-fn all_of(tests: PlainVec<Expr>) -> Expr
+fn all_of(tests: Items<Expr>) -> Expr
     ensures { result ≡ all_of tests }
 {
     let mut tests = tests;

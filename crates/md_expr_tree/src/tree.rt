@@ -3,7 +3,7 @@ ghost use Rattle.std.specs.Prelude.{◌≡◌, IfOk};
 
 use md_time::Form;
 use md_value::{Copied, Name, PlainVec as Pieces, Text};
-use sqlite_items::{Boxed, PlainVec};
+use sqlite_items::{Boxed, Items};
 use std::alloc::{AllocError, Global};
 
 /// An operator of comparison.
@@ -76,9 +76,9 @@ pub enum Expr {
     /// `!( )` around an expression.
     Not(Boxed<Expr>),
     /// Two or more expressions joined by `&&`.
-    All(PlainVec<Expr>),
+    All(Items<Expr>),
     /// Two or more expressions joined by `||`.
-    Any(PlainVec<Expr>),
+    Any(Items<Expr>),
 }
 
 impl Copied for Subject {
@@ -135,10 +135,10 @@ impl Copied for Test {
 }
 
 #[cycle(copy)]
-fn copy_all(alloc: Global, list: &[Expr]) -> Result<PlainVec<Expr>, AllocError>
+fn copy_all(alloc: Global, list: &[Expr]) -> Result<Items<Expr>, AllocError>
     ensures { IfOk result (λ es. es ≡ list.now) }
 {
-    let mut all = PlainVec::new(alloc);
+    let mut all = Items::new(alloc);
     for e in list {
         all.push(e.copy(alloc)?)?;
     }

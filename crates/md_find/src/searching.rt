@@ -8,7 +8,7 @@ ghost use Rattle.md_find.specs.Searches.{is_sign, has_part, looks_like_expressio
 
 use md_expr::{Expr, ReadError, interpret, named, read};
 use md_words::Mode;
-use sqlite_items::PlainVec;
+use sqlite_items::Items;
 use std::alloc::{AllocError, Global};
 
 fn is_sign(byte: u8) -> bool
@@ -63,7 +63,7 @@ fn both(alloc: Global, first: Expr, second: Expr) -> Result<Expr, AllocError>
     ensures both { IfOk result (λ e. e ≡ Expr.All (first ∷ second ∷ [])) }
     ensures well_made { IfOk result (λ e. is_well_made e ≡ true) }
 {
-    let mut members = PlainVec::new(alloc);
+    let mut members = Items::new(alloc);
     members.push(first)?;
     members.push(second)?;
     Ok(Expr::All(members))

@@ -9,7 +9,7 @@ use crate::check::Check;
 use md_expr_tree::Expr;
 use md_time::LocalTime;
 use md_value::Attrs;
-use sqlite_items::{Boxed, PlainVec};
+use sqlite_items::{Boxed, Items};
 use std::alloc::{AllocError, Global};
 
 /// An expression with its keys made and its moments resolved.
@@ -20,16 +20,16 @@ pub enum Ready {
     /// Whether the other is not satisfied.
     Not(Boxed<Ready>),
     /// Whether all are satisfied.
-    All(PlainVec<Ready>),
+    All(Items<Ready>),
     /// Whether some are satisfied.
-    Any(PlainVec<Ready>),
+    Any(Items<Ready>),
 }
 
 #[cycle(made)]
-fn all_of(alloc: Global, list: &[Expr], local: &LocalTime) -> Result<PlainVec<Ready>, AllocError>
+fn all_of(alloc: Global, list: &[Expr], local: &LocalTime) -> Result<Items<Ready>, AllocError>
     ensures { IfOk result (λ rs. (attrs : List Attr) → map (λ r. is_satisfied r attrs) rs ≡ map (λ e. satisfies local.now.moment local.now.offset e attrs) list.now) }
 {
-    let mut all = PlainVec::new(alloc);
+    let mut all = Items::new(alloc);
     for e in list {
         all.push(Ready::of(alloc, e, local)?)?;
     }

@@ -9,7 +9,7 @@ use md_index::Probe;
 use md_match::Filter;
 use md_time::LocalTime;
 use md_value::Name;
-use sqlite_items::PlainVec;
+use sqlite_items::Items;
 use std::alloc::{AllocError, Global};
 
 /// Which rows an index finds.
@@ -20,9 +20,9 @@ pub enum Plan {
     /// Those with a value between two edges.
     Probe(Probe),
     /// Those of the smallest of these, the first where some are of one size.
-    Least(PlainVec<Plan>),
+    Least(Items<Plan>),
     /// Those of some of these.
-    Union(PlainVec<Plan>),
+    Union(Items<Plan>),
 }
 
 // The rows of a probe, or none.
@@ -31,7 +31,7 @@ fn found(alloc: Global, probe: Option<Probe>) -> Plan
 {
     match probe {
         Some(probe) => Plan::Probe(probe),
-        None => Plan::Union(PlainVec::new(alloc)),
+        None => Plan::Union(Items::new(alloc)),
     }
 }
 
@@ -107,10 +107,10 @@ fn of_test(alloc: Global, test: &Test, local: &LocalTime) -> Result<Plan, AllocE
 }
 
 #[cycle(made)]
-fn all_of(alloc: Global, list: &[Expr], local: &LocalTime) -> Result<PlainVec<Plan>, AllocError>
+fn all_of(alloc: Global, list: &[Expr], local: &LocalTime) -> Result<Items<Plan>, AllocError>
     ensures { IfOk result (λ plans. (size : RowSet → ℕ) → map (plan_set size) plans ≡ map (candidate size local.now.moment local.now.offset) list.now) }
 {
-    let mut all = PlainVec::new(alloc);
+    let mut all = Items::new(alloc);
     for expr in list {
         all.push(of_expr(alloc, expr, local)?)?;
     }
