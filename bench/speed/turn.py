@@ -18,8 +18,8 @@ ghost use Rattle.std.specs.Thread.{IsSync, IsSend};
 use md_hub::Hub;
 use md_machine::{Event, Reply};
 use md_turn::{Core, JournalEntry, Pass, Turn};
-use md_value::{Copied, Path};
-use md_world::Limits;
+use md_value::{Attrs, Copied, Name, Path, Text, Value};
+use md_world::{Change, Limits};
 use std::alloc::{AllocError, Global};
 use std::sync::Wait;
 use std::thread::{Threads, join};
@@ -27,9 +27,40 @@ use std::time::Instant;
 
 const ACTS: u64 = 800_000;
 
-fn event(alloc: Global, path: &Path, number: u64, ticket: u32) -> Option<Event> {
+fn set(alloc: Global, attrs: &mut Attrs, name: &str, value: Value) -> anyhow::Result<()> {
+    let Ok(name) = Name::read(alloc, name) else {
+        return Ok(());
+    };
+    let mut values = Vec::new(alloc);
+    values.push(value)?;
+    if !values.iter().any(|value| matches!(value, Value::Moment(_))) {
+        let _ = attrs.put(name, values);
+    }
+    Ok(())
+}
+
+fn attrs(alloc: Global, number: u32) -> anyhow::Result<Attrs> {
+    let mut attrs = Attrs::new(alloc);
+    let title = format!(in alloc; "The title of file {number}")?;
+    set(alloc, &mut attrs, "kMDItemTitle", Value::Text(Text::of(alloc, title.as_str())?))?;
+    set(alloc, &mut attrs, "kMDItemKind", Value::Text(Text::of(alloc, "Plain text")?))?;
+    set(alloc, &mut attrs, "kMDItemPageCount", Value::Number((number % 1_000) as i64))?;
+    Ok(attrs)
+}
+
+fn put(alloc: Global, ticket: u32) -> Option<Event> {
+    match attrs(alloc, ticket) {
+        Ok(attrs) => Some(Event::Commit { ticket, change: Change::Put(attrs) }),
+        Err(_) => None,
+    }
+}
+
+// The event of a thread that draws a ticket and then closes it, or commits a row by it.
+fn event(alloc: Global, path: &Path, number: u64, ticket: u32, commits: bool) -> Option<Event> {
     if number % 2 == 0 {
         Some(Event::Draw { path: path.copy(alloc).ok()? })
+    } else if commits {
+        put(alloc, ticket)
     } else {
         Some(Event::Close { ticket })
     }
@@ -57,7 +88,7 @@ fn drawn(reply: Option<Reply>, ticket: u32) -> u32 {
     }
 }
 
-fn act_often<C: Core, R: Wait>(rt: &R, alloc: Global, turn: &Turn<C>, pass: &mut Pass, acts: u64)
+fn act_often<C: Core, R: Wait>(rt: &R, alloc: Global, turn: &Turn<C>, pass: &mut Pass, acts: u64, commits: bool)
     requires { pass.old.id ≡ turn.now.id }
     ensures { (pass.new.id ≡ pass.old.id) × (pass.new.share ≡ pass.old.share) }
 {
@@ -66,7 +97,7 @@ fn act_often<C: Core, R: Wait>(rt: &R, alloc: Global, turn: &Turn<C>, pass: &mut
     };
     let mut ticket = 0u32;
     for number in 0..acts {
-        if let Some(event) = event(alloc, &path, number, ticket) {
+        if let Some(event) = event(alloc, &path, number, ticket, commits) {
             ticket = drawn(reply_to(rt, turn, pass, event), ticket);
         }
     }
@@ -82,13 +113,13 @@ fn split_half<C: Core>(turn: &Turn<C>, pass: &mut Pass) -> Pass
 }
 
 #[cycle(threads)]
-fn act_by_threads<C: Core, R: Threads + Wait + Sync>(rt: &R, alloc: Global, turn: &Turn<C>, mut pass: Pass, threads: u8, acts: u64) -> Pass
+fn act_by_threads<C: Core, R: Threads + Wait + Sync>(rt: &R, alloc: Global, turn: &Turn<C>, mut pass: Pass, threads: u8, acts: u64, commits: bool) -> Pass
     requires sends { IsSend C.row × IsSync R.row }
     requires turn { pass.id ≡ turn.now.id }
     ensures { (result.id ≡ pass.id) × (result.share ≡ pass.share) }
 {
     if threads <= 1 {
-        act_often(rt, alloc, turn, &mut pass, acts);
+        act_often(rt, alloc, turn, &mut pass, acts, commits);
         return pass;
     }
     let half = threads / 2;
@@ -97,39 +128,45 @@ fn act_by_threads<C: Core, R: Threads + Wait + Sync>(rt: &R, alloc: Global, turn
     let lower = move || -> Pass
         requires { IsSend C.row × IsSync R.row × (pass.id ≡ turn.now.id) }
         ensures { (result.id ≡ pass.id) × (result.share ≡ pass.share) }
-    { act_by_threads(rt, alloc, turn, pass, half, acts) };
+    { act_by_threads(rt, alloc, turn, pass, half, acts, commits) };
     let upper = move || -> Pass
         requires { IsSend C.row × IsSync R.row × (other.id ≡ turn.now.id) }
         ensures { (result.id ≡ other.id) × (result.share ≡ other.share) }
-    { act_by_threads(rt, alloc, turn, other, rest, acts) };
+    { act_by_threads(rt, alloc, turn, other, rest, acts, commits) };
     let (mut done, there) = join(rt, lower, upper);
     turn.join(&mut done, there);
     done
 }
 
 // The journal of the acts of so many threads.
-fn journal_of<C: Core, R: Threads + Wait + Sync>(rt: &R, alloc: Global, core: C, threads: u8, acts: u64) -> Result<Vec<JournalEntry>, AllocError> {
+fn journal_of<C: Core, R: Threads + Wait + Sync>(rt: &R, alloc: Global, core: C, threads: u8, acts: u64, commits: bool) -> Result<Vec<JournalEntry>, AllocError> {
     let (turn, pass) = Turn::new(alloc, core)?;
-    let pass = act_by_threads(rt, alloc, &turn, pass, threads, acts);
+    let pass = act_by_threads(rt, alloc, &turn, pass, threads, acts, commits);
     let passes = vec![in alloc; pass]?;
     let (_, journal) = turn.close(passes);
     Ok(journal)
 }
 
-fn acts_on_hub<R: Threads + Wait + Sync>(rt: &R, alloc: Global, threads: u8) -> Result<Vec<JournalEntry>, AllocError> {
+fn acts_on_hub<R: Threads + Wait + Sync>(rt: &R, alloc: Global, threads: u8, commits: bool) -> Result<Vec<JournalEntry>, AllocError> {
     let acts = ACTS / u64::from(threads.max(1));
-    journal_of(rt, alloc, Hub::new(alloc, Limits::STANDARD), threads, acts)
+    journal_of(rt, alloc, Hub::new(alloc, Limits::STANDARD), threads, acts, commits)
+}
+
+fn time_acts(rt: &HostRuntime, commits: bool) -> anyhow::Result<()> {
+    let acts = if commits { "draws and commits" } else { "draws and closes" };
+    for threads in [1, 2, 4, 8, 1, 2, 4, 8, 1, 2, 4, 8] {
+        let start = Instant::now(rt)?;
+        let journal = acts_on_hub(rt, rt.alloc(), threads, commits)?;
+        let spent = start.elapsed(rt)?.as_micros().max(1);
+        let entries = journal.len();
+        println!(rt; "turn, {threads} threads, {acts}: {entries} entries, {} acts in a second", entries as u128 * 1_000_000 / spent)?;
+    }
+    Ok(())
 }
 
 fn main(rt: HostRuntime) -> anyhow::Result<()> {
-    for threads in [1, 2, 4, 8, 1, 2, 4, 8, 1, 2, 4, 8] {
-        let start = Instant::now(&rt)?;
-        let journal = acts_on_hub(&rt, rt.alloc(), threads)?;
-        let spent = start.elapsed(&rt)?.as_micros().max(1);
-        let entries = journal.len();
-        println!(rt; "turn, {threads} threads: {entries} entries, {} acts in a second", entries as u128 * 1_000_000 / spent)?;
-    }
-    Ok(())
+    time_acts(&rt, false)?;
+    time_acts(&rt, true)
 }
 """
 
@@ -178,19 +215,33 @@ journal_of-requires-send-C g c κs within = search (sendable, hub_sends) depth 2
 """,
 }
 
-PLAIN = """use std::sync::Mutex;
+PLAIN = r"""use std::collections::HashMap;
+use std::sync::Mutex;
 use std::time::Instant;
 
 const ACTS: u64 = 800_000;
 
+#[derive(Clone)]
+#[allow(dead_code)]
+enum Value {
+    Text(String),
+    Number(i64),
+}
+
+type Attrs = Vec<(String, Vec<Value>)>;
+
 enum Event {
     Draw { path: String },
+    Commit { ticket: u32, put: Attrs },
     Close { ticket: u32 },
 }
 
 #[derive(Clone, Copy)]
+#[allow(dead_code)]
 enum Reply {
     Ticket(u32),
+    Committed(u32),
+    Superseded(u32),
     Closed,
     NoTicket,
 }
@@ -198,6 +249,20 @@ enum Reply {
 struct Ticket {
     number: u32,
     path: String,
+}
+
+#[allow(dead_code)]
+struct Row {
+    attrs: Attrs,
+    from: u32,
+    until: u32,
+    before: Option<u32>,
+}
+
+#[derive(Default)]
+struct Place {
+    newest: Option<u32>,
+    stamp: u32,
 }
 
 #[allow(dead_code)]
@@ -210,10 +275,42 @@ struct Entry {
 #[derive(Default)]
 struct Hub {
     drawn: u32,
+    version: u32,
     tickets: Vec<Ticket>,
+    places: Vec<Place>,
+    place_of: HashMap<String, u32>,
+    rows: Vec<Row>,
 }
 
 impl Hub {
+    fn take(&mut self, ticket: u32) -> Option<Ticket> {
+        let at = self.tickets.binary_search_by_key(&ticket, |open| open.number).ok()?;
+        Some(self.tickets.remove(at))
+    }
+
+    fn commit(&mut self, ticket: u32, put: &Attrs) -> Reply {
+        let Some(Ticket { number, path }) = self.take(ticket) else {
+            return Reply::NoTicket;
+        };
+        let next = self.places.len() as u32;
+        let at = *self.place_of.entry(path).or_insert(next);
+        if at == next {
+            self.places.push(Place::default());
+        }
+        let place = &mut self.places[at as usize];
+        if place.stamp > number {
+            return Reply::Superseded(place.stamp);
+        }
+        self.version += 1;
+        place.stamp = number;
+        if let Some(row) = place.newest {
+            self.rows[row as usize].until = self.version;
+        }
+        let before = place.newest.replace(self.rows.len() as u32);
+        self.rows.push(Row { attrs: put.clone(), from: self.version, until: u32::MAX, before });
+        Reply::Committed(self.version)
+    }
+
     fn step(&mut self, event: &Event) -> Reply {
         match event {
             Event::Draw { path } => {
@@ -221,11 +318,9 @@ impl Hub {
                 self.tickets.push(Ticket { number: self.drawn, path: path.clone() });
                 Reply::Ticket(self.drawn)
             }
-            Event::Close { ticket } => match self.tickets.iter().position(|open| open.number == *ticket) {
-                Some(place) => {
-                    drop(self.tickets.remove(place).path);
-                    Reply::Closed
-                }
+            Event::Commit { ticket, put } => self.commit(*ticket, put),
+            Event::Close { ticket } => match self.take(*ticket) {
+                Some(_) => Reply::Closed,
                 None => Reply::NoTicket,
             },
         }
@@ -233,12 +328,12 @@ impl Hub {
 }
 
 #[derive(Default)]
-struct Held {
+struct Journaled {
     hub: Hub,
     journal: Vec<Entry>,
 }
 
-impl Held {
+impl Journaled {
     fn act(&mut self, event: Event) -> (u64, Reply) {
         let reply = self.hub.step(&event);
         let place = self.journal.len() as u64 + 1;
@@ -247,32 +342,47 @@ impl Held {
     }
 }
 
-fn act_often(held: &Mutex<Held>, path: &str, acts: u64) {
+fn attrs(number: u32) -> Attrs {
+    vec![
+        ("kMDItemTitle".to_string(), vec![Value::Text(format!("The title of file {number}"))]),
+        ("kMDItemKind".to_string(), vec![Value::Text("Plain text".to_string())]),
+        ("kMDItemPageCount".to_string(), vec![Value::Number(i64::from(number % 1_000))]),
+    ]
+}
+
+fn act_often(server: &Mutex<Journaled>, path: &str, acts: u64, commits: bool) {
     let mut ticket = 0;
     for number in 0..acts {
-        let event = if number % 2 == 0 { Event::Draw { path: path.to_string() } } else { Event::Close { ticket } };
-        if let (_, Reply::Ticket(drawn)) = held.lock().unwrap().act(event) {
+        let event = match number % 2 {
+            0 => Event::Draw { path: path.to_string() },
+            _ if commits => Event::Commit { ticket, put: attrs(ticket) },
+            _ => Event::Close { ticket },
+        };
+        if let (_, Reply::Ticket(drawn)) = server.lock().unwrap().act(event) {
             ticket = drawn;
         }
     }
 }
 
-fn time_acts(threads: u64) {
-    let held = Mutex::new(Held::default());
+fn time_acts(threads: u64, commits: bool) {
+    let server = Mutex::new(Journaled::default());
     let start = Instant::now();
     std::thread::scope(|scope| {
         for _ in 0..threads {
-            scope.spawn(|| act_often(&held, "a.txt", ACTS / threads));
+            scope.spawn(|| act_often(&server, "a.txt", ACTS / threads, commits));
         }
     });
     let spent = start.elapsed().as_micros().max(1);
-    let entries = held.into_inner().unwrap().journal.len();
-    println!("mutex, {threads} threads: {entries} entries, {} acts in a second", entries as u128 * 1_000_000 / spent);
+    let entries = server.into_inner().unwrap().journal.len();
+    let acts = if commits { "draws and commits" } else { "draws and closes" };
+    println!("mutex, {threads} threads, {acts}: {entries} entries, {} acts in a second", entries as u128 * 1_000_000 / spent);
 }
 
 fn main() {
-    for threads in [1, 2, 4, 8, 1, 2, 4, 8, 1, 2, 4, 8] {
-        time_acts(threads);
+    for commits in [false, true] {
+        for threads in [1, 2, 4, 8, 1, 2, 4, 8, 1, 2, 4, 8] {
+            time_acts(threads, commits);
+        }
     }
 }
 """

@@ -8,7 +8,7 @@ use Rattle.md_machine.proofs.Crossing.{event_field_sends}
 use Rattle.md_machine.proofs.Reply.TheSendSync as reply_sent
 use Rattle.std.proofs.alloc.Global.TheSendSync as heap_sent
 use Rattle.std.proofs.vec.Vec.TheSendSync as vec_sent
-use Rattle.std.proofs.Crossing.{frees}
+use Rattle.std.proofs.Crossing.{frees, crosses}
 use Rattle.md_turn.specs.contracts.journal.JournalEntry as entry
 use Rattle.std.specs.contracts.option.Option as option
 use Rattle.std.specs.contracts.snapshot.Snapshot as snapshot
@@ -43,7 +43,7 @@ slot_sends C c =
 inside_syncs : (C : RattleType) (g : Ghosts C.Denot) → IsSend C → IsSync (inside.the_row C g)
 inside_syncs C g c =
     recorded_sync (inside.the_field C g).row _ _ (inside.the_type C g).to_one (struct_sync (struct.shape (inside.the_type C g))
-    (table_sent.the_field_sync (option.the_row (journaled.the_row C)) view.the_row (snapshot.the_row C) (rule.the_row C) heap.the_row (impl.ghosts C g impl.no_dict impl.no_dict) ghosts (slot_sends C c) heap_sent.the_send heap_sent.the_sync frees, tt))
+    (table_sent.the_field_sync (option.the_row (journaled.the_row C)) view.the_row (snapshot.the_row C) (rule.the_row C) heap.the_row (impl.ghosts C g impl.no_dict impl.no_dict) ghosts (slot_sends C c) heap_sent.the_send heap_sent.the_sync frees, (search (sendable, crosses) depth 8, tt)))
 
 -- threads may share a lock
 pub turn_syncs : (C : RattleType) (g : Ghosts C.Denot) → IsSend C → IsSync (turn.the_row C g)

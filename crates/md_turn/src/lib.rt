@@ -8,7 +8,8 @@
 //!
 //! The lock is a ticket lock over `atomic_table`: two words, the tickets drawn and the turn that is served, and one slot
 //! for the server with its journal. The rule that its steps keep is `Kept` of `specs/Turns.antt`; [`laws`] says what
-//! follows of it. Nothing is said of who is served when, nor that waiting ends.
+//! follows of it. A mutex stands before the tickets, so that who draws one is served at once and is a thread that runs;
+//! those who wait for the mutex sleep. Nothing is said of who is served when, nor that waiting ends.
 #![tactic(auto)]
 
 mod journal;

@@ -10,12 +10,14 @@ use std::alloc::{AllocError, Global};
 use std::marker::{Brand, Model};
 use std::mem::replace;
 use std::snapshot::Snapshot;
-use std::sync::Wait;
+use std::sync::{Mutex, Wait};
 
 /// A server and its journal, which one pass at a time acts on.
 #[derive(Drop)]
 pub struct Turn<C: Core> {
     table: TurnTable<C>,
+    // Journaled from before a ticket is drawn until the turn is passed on, so that one ticket at most is out.
+    gate: Mutex<()>,
 }
 
 impl<C: Core> Model for Turn<C> {
@@ -67,7 +69,8 @@ impl<C: Core> Turn<C> {
                     share: u64::MAX,
                     made: 0,
                 };
-                Ok((Turn { table }, pass))
+                let gate = Mutex::new(());
+                Ok((Turn { table, gate }, pass))
             }
             Err(_) => Err(AllocError),
         }
@@ -91,7 +94,9 @@ impl<C: Core> Turn<C> {
         ensures refused { IfErr result (λ e. (e.event ≡ event) × Unacted self.now.opening pass.old.seen pass.old.own pass.new.seen pass.new.own × (pass.new.refused ≡ pass.old.refused + 1)) }
     {
         let mut seat = replace(&mut pass.badge, Badge::blank()).into_seat();
+        let guard = self.gate.lock(rt);
         let outcome = act_by::<C, Brand, R>(rt, &self.table, &mut seat, event);
+        drop(guard);
         pass.badge = seat.into_badge();
         pass.made += 1;
         match outcome {
@@ -142,7 +147,7 @@ impl<C: Core> Turn<C> {
         ensures { Ended self.opening (pass ∷ []) (C.state result.0) result.1.items }
     {
         pass.own_are_seen();
-        let Turn { table } = self;
+        let Turn { table, .. } = self;
         let Pass { badge, .. } = pass;
         let Journaled { core, journal, .. } = close_by(table, badge.into_seat());
         (core, journal)
