@@ -2,9 +2,10 @@
 """Times acts on a server behind a turn lock, beside a `Mutex` round the same server in plain Rust: builds both programs in a
 temporary folder, with `rt` and with `rustc -O`, and runs them.
 
-A thread draws a ticket for a path of its own and closes it, by turns; each act gets an entry in the one journal. Prints a line
-for 1, 2, 4 and 8 threads, which make 800,000 acts in all: acts in a second, three times. Needs `rt` and `rustc` in the path,
-Python 3, and some minutes."""
+The peer has the server's events and replies, its open tickets and its versions of rows by path, and makes of each reply a copy, as
+the server does; what it has not is queries. A thread draws a ticket for a path of its own and closes it, by turns, or commits a row
+of three attributes by it; each act gets an entry in the one journal. Prints a line for 1, 2, 4 and 8 threads, which make 800,000
+acts in all: acts in a second, three times. Needs `rt` and `rustc` in the path, Python 3, and some minutes."""
 
 import programs
 
@@ -215,35 +216,107 @@ journal_of-requires-send-C g c κs within = search (sendable, hub_sends) depth 2
 """,
 }
 
-PLAIN = r"""use std::collections::HashMap;
+PLAIN = r"""#![allow(dead_code)]
+
+use std::collections::HashMap;
 use std::sync::Mutex;
 use std::time::Instant;
 
 const ACTS: u64 = 800_000;
 
 #[derive(Clone)]
-#[allow(dead_code)]
 enum Value {
     Text(String),
     Number(i64),
+    Flag(bool),
+    Moment(i64),
 }
 
 type Attrs = Vec<(String, Vec<Value>)>;
 
-enum Event {
-    Draw { path: String },
-    Commit { ticket: u32, put: Attrs },
-    Close { ticket: u32 },
+enum Literal {
+    Words { pieces: Vec<String>, fold: bool, marks: bool },
+    Number(i128),
+    Time(i64, u8),
 }
 
-#[derive(Clone, Copy)]
-#[allow(dead_code)]
+enum Subject {
+    Named(String),
+    Some,
+}
+
+enum Test {
+    Compare { subject: Subject, op: u8, literal: Literal },
+    Range { name: String, least: Literal, greatest: Literal },
+}
+
+enum Expr {
+    Test(Test),
+    Not(Box<Expr>),
+    All(Vec<Expr>),
+    Any(Vec<Expr>),
+}
+
+struct Spec {
+    expr: Expr,
+    now: i64,
+    offset: i32,
+    scope: String,
+    order: Vec<(String, bool)>,
+    batch: [Option<u32>; 3],
+}
+
+enum Change {
+    Put(Attrs),
+    Remove,
+}
+
+// The events of a server, all of which an entry of a journal has room for.
+enum Event {
+    Draw { path: String },
+    Commit { ticket: u32, change: Change },
+    Close { ticket: u32 },
+    Create { client: u8, number: u32, spec: Spec },
+    Gather { client: u8, number: u32, now_ms: u64 },
+    Disable { client: u8, number: u32 },
+    Enable { client: u8, number: u32, now_ms: u64 },
+    Poll { client: u8, number: u32, now_ms: u64 },
+    Stop { client: u8, number: u32 },
+    Vacuum { client: u8 },
+}
+
+#[derive(Clone)]
+struct Shown {
+    path: String,
+    attrs: Attrs,
+}
+
+#[derive(Clone)]
+struct Part {
+    hits: Vec<Shown>,
+    last: bool,
+}
+
+#[derive(Clone)]
+struct Notice {
+    from: u32,
+    to: u32,
+    added: Vec<Shown>,
+    changed: Vec<Shown>,
+    removed: Vec<String>,
+}
+
+#[derive(Clone)]
 enum Reply {
     Ticket(u32),
     Committed(u32),
     Superseded(u32),
-    Closed,
     NoTicket,
+    Closed,
+    Progress(Part),
+    Finished(Part, u32),
+    Notice(Notice),
+    NoQuery,
 }
 
 struct Ticket {
@@ -251,7 +324,6 @@ struct Ticket {
     path: String,
 }
 
-#[allow(dead_code)]
 struct Row {
     attrs: Attrs,
     from: u32,
@@ -265,7 +337,6 @@ struct Place {
     stamp: u32,
 }
 
-#[allow(dead_code)]
 struct Entry {
     place: u64,
     event: Event,
@@ -288,7 +359,7 @@ impl Hub {
         Some(self.tickets.remove(at))
     }
 
-    fn commit(&mut self, ticket: u32, put: &Attrs) -> Reply {
+    fn commit(&mut self, ticket: u32, change: &Change) -> Reply {
         let Some(Ticket { number, path }) = self.take(ticket) else {
             return Reply::NoTicket;
         };
@@ -306,8 +377,12 @@ impl Hub {
         if let Some(row) = place.newest {
             self.rows[row as usize].until = self.version;
         }
+        let Change::Put(attrs) = change else {
+            place.newest = None;
+            return Reply::Committed(self.version);
+        };
         let before = place.newest.replace(self.rows.len() as u32);
-        self.rows.push(Row { attrs: put.clone(), from: self.version, until: u32::MAX, before });
+        self.rows.push(Row { attrs: attrs.clone(), from: self.version, until: u32::MAX, before });
         Reply::Committed(self.version)
     }
 
@@ -318,11 +393,12 @@ impl Hub {
                 self.tickets.push(Ticket { number: self.drawn, path: path.clone() });
                 Reply::Ticket(self.drawn)
             }
-            Event::Commit { ticket, put } => self.commit(*ticket, put),
+            Event::Commit { ticket, change } => self.commit(*ticket, change),
             Event::Close { ticket } => match self.take(*ticket) {
                 Some(_) => Reply::Closed,
                 None => Reply::NoTicket,
             },
+            _ => Reply::NoQuery,
         }
     }
 }
@@ -337,8 +413,9 @@ impl Journaled {
     fn act(&mut self, event: Event) -> (u64, Reply) {
         let reply = self.hub.step(&event);
         let place = self.journal.len() as u64 + 1;
+        let copy = reply.clone();
         self.journal.push(Entry { place, event, reply });
-        (place, reply)
+        (place, copy)
     }
 }
 
@@ -355,7 +432,7 @@ fn act_often(server: &Mutex<Journaled>, path: &str, acts: u64, commits: bool) {
     for number in 0..acts {
         let event = match number % 2 {
             0 => Event::Draw { path: path.to_string() },
-            _ if commits => Event::Commit { ticket, put: attrs(ticket) },
+            _ if commits => Event::Commit { ticket, change: Change::Put(attrs(ticket)) },
             _ => Event::Close { ticket },
         };
         if let (_, Reply::Ticket(drawn)) = server.lock().unwrap().act(event) {
