@@ -19,7 +19,7 @@ use Rattle.md_turn.specs.contracts.journaled.Journaled as journaled
 use Rattle.md_turn.specs.declared.journaled.Core.{Ghosts}
 use Rattle.md_turn.specs.contracts.rule.View as view
 use Rattle.md_turn.specs.contracts.rule.Rule as rule
-use Rattle.md_turn.specs.contracts.rule.RuleTableRuleOptionHeldViewSnapshot.TheImpl as impl
+use Rattle.md_turn.specs.contracts.rule.RuleTableRuleOptionJournaledViewSnapshot.TheImpl as impl
 use Rattle.md_turn.specs.contracts.turn.Turn as turn
 use Rattle.md_turn.specs.contracts.turn.Turn.TheInside as inside
 
