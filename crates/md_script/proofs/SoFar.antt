@@ -73,14 +73,14 @@ pub timed_all : (bytes : List ℕ) → timed 1 0 (lines bytes) ≡ statements by
 timed_all bytes = sym (numbered_timed (lines bytes) [] (lines bytes) refl)
 
 -- the lines that were read, and those that are left
-abbrev pub verdict_by : List Line → List Line → Option ℕ → Result (List Line) ScriptError
-verdict_by read left (Some number) = Err (BadLine number)
-verdict_by read left None = Ok (read ++ left)
+abbrev pub verdict_after : List Line → List Line → Option ℕ → Result (List Line) ScriptError
+verdict_after read left (Some number) = Err (BadLine number)
+verdict_after read left None = Ok (read ++ left)
 
 unfoldable pub verdict_from : List Line → ℕ → ℕ → List (List ℕ) → Result (List Line) ScriptError
-verdict_from read n ms left = verdict_by read (timed n ms left) (position_from is_bad_line n left)
+verdict_from read n ms left = verdict_after read (timed n ms left) (position_from is_bad_line n left)
 
-moved : (read : List Line) (line : Line) (left : List Line) (o : Option ℕ) → verdict_by read (line ∷ left) o ≡ verdict_by (read ++ line ∷ []) left o
+moved : (read : List Line) (line : Line) (left : List Line) (o : Option ℕ) → verdict_after read (line ∷ left) o ≡ verdict_after (read ++ line ∷ []) left o
 moved read line left (Some number) = refl
 moved read line left None = ap Ok (sym (append_assoc read (line ∷ []) left))
 

@@ -7,7 +7,7 @@ use Rattle.md_script.specs.Limits.{most_bytes, most_lines}
 use Rattle.md_script.specs.declared.script.Line.{Line}
 use Rattle.md_script.specs.declared.script.ScriptError.TheVariants.{TooLong, TooManyLines, BadLine, Memory}
 use Rattle.md_script.specs.Scripts.{verdict, verdict_by, first_bad, statements, IsShort}
-use Rattle.md_script.proofs.SoFar.{verdict_from, verdict_by, timed_all}
+use Rattle.md_script.proofs.SoFar.{verdict_from, verdict_after, timed_all}
 
 not_below : (a b : ℕ) → b ≤ a → nat_lt a b ≡ false
 not_below a b h = grind (arith, nat_tests)
@@ -25,7 +25,7 @@ verdict-many bytes short h =
     let many : nat_lt most_lines (length (lines bytes)) ≡ true = (Decides-ltb most_lines (length (lines bytes))).1 h in
     rw long (rw many refl)
 
-by_lines : (o : Option ℕ) (left : List Line) → verdict_by false false o left ≡ verdict_by [] left o
+by_lines : (o : Option ℕ) (left : List Line) → verdict_by false false o left ≡ verdict_after [] left o
 by_lines (Some number) left = refl
 by_lines None left = refl
 
@@ -35,7 +35,7 @@ unfolding verdict verdict_from
 verdict-short bytes short few =
     let long = not_below most_bytes (length bytes) short in
     let many = not_below most_lines (length (lines bytes)) few in
-    ap (λ (left : List Line). verdict_by [] left (first_bad bytes)) (timed_all bytes) ∙ rw long (rw many (sym (by_lines (first_bad bytes) (statements bytes))))
+    ap (λ (left : List Line). verdict_after [] left (first_bad bytes)) (timed_all bytes) ∙ rw long (rw many (sym (by_lines (first_bad bytes) (statements bytes))))
 
 -- what each verdict says of the causes
 
