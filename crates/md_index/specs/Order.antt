@@ -1,4 +1,4 @@
--- Values and names, each told apart by its order.
+-- Values and names, of which two are equal where neither is before the other.
 use Rattle.std.specs.Prelude.{ℕ, Bool, List}
 use Rattle.std.specs.Ordering.{nat_cmp, eq_by_cmp}
 use Rattle.std.specs.Cmp.{IsEquivalence, IsTotalOrder, eq_by_cmp_equiv}

@@ -320,7 +320,7 @@ impl Session {
         Ok(counts)
     }
 
-    /// What the run so far comes to, with how many rows each of these clients holds by its query 1.
+    /// The sums of the run so far, with how many rows each of these clients holds by its query 1.
     pub fn sum(&self, alloc: Global, clients: &[u8]) -> Result<Sum, AllocError>
         ensures { IfOk result (λ sum. sum ≡ sum_so_far self.now clients.now) }
     {

@@ -1,4 +1,4 @@
-// What the run of a script comes to, in numbers.
+// The sums of the run of a script.
 ghost use Rattle.std.specs.Prelude.{◌≡◌, ◌≤◌, IfOk, None, length};
 ghost use Rattle.md_script.specs.Limits.{most_lines};
 ghost use Rattle.md_value.specs.Values.{IsMoment};
@@ -17,7 +17,7 @@ use md_time::LocalTime;
 use md_value::PlainVec;
 use std::alloc::{AllocError, Global};
 
-/// What a run comes to.
+/// The sums of a run.
 #[derive(Debug, Drop)]
 pub struct Sum {
     /// How many events there were.

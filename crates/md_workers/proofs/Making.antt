@@ -78,7 +78,7 @@ job_there [] k below = absurd (omega arith)
 job_there (job ∷ jobs) zero below = (job, refl)
 job_there (job ∷ jobs) (suc k) below = job_there jobs k (omega arith)
 
--- the change that is told of a job is its own
+-- the change at the place of a job is its own
 pub change_there : (jobs : List Job) (k : ℕ) (job : Job) (change : Option Change) → slice_get jobs k ≡ Some job → IfSome (slice_get jobs k) (λ (j : Job). change ≡ j.change) → change ≡ job.change
 change_there jobs k job change there h = subst (λ (o : Option Job). IfSome o (λ (j : Job). change ≡ j.change)) there h
 

@@ -31,7 +31,7 @@ pub enum Role {
 /// A client or a worker, with all that it needs to run in a thread of its own.
 #[derive(Drop)]
 pub struct Actor {
-    /// What a gate is told of it.
+    /// The number by which a gate knows it.
     pub number: u32,
     pub pass: Pass,
     pub role: Role,

@@ -12,7 +12,7 @@ use md_turn::{Core, Pass, Turn};
 use std::alloc::{AllocError, Global};
 use std::sync::Wait;
 
-/// What a gate is told of who draws the tickets.
+/// The number by which a gate knows the thread that draws the tickets.
 const CALLER: u32 = 0;
 
 /// Draws a ticket for each job, in order.
