@@ -8,7 +8,7 @@ use Rattle.md_source.specs.declared.tree.Entry.{Entry}
 use Rattle.md_world.specs.declared.Row.{Row}
 use Rattle.md_world.specs.Differences.{paths_of}
 use Rattle.md_match.specs.Conditions.{Condition, passes}
-use Rattle.md_files.specs.FileAnswers.{outcome}
+use Rattle.md_files.specs.FileAnswers.{import_result}
 use Rattle.md_files.specs.Findings.{Finding, read_findings, err_line, is_failed, is_absent}
 use Rattle.md_files.specs.Findings.Finding.{listed}
 use Rattle.md_files.specs.Additions.{worse}
@@ -46,7 +46,7 @@ module _ (condition : Condition) where
 
   alike_seen : (files : List ReadFile) → Alike (filter_map reason_of (map (seen_file condition) files)) (read_findings condition.offset (entries_of files) (answers_of files))
   alike_seen [] = record { lines = refl; failed = refl; absent = refl }
-  alike_seen (file ∷ files) = alike_more file.entry.path (outcome condition.offset (answer_of file)) _ _ (alike_seen files)
+  alike_seen (file ∷ files) = alike_more file.entry.path (import_result condition.offset (answer_of file)) _ _ (alike_seen files)
 
   -- what became of those that give no attributes is all that is printed of files that were read
   pub noted_seen : (report : FileReport) (files : List ReadFile)
@@ -76,7 +76,7 @@ module _ (condition : Condition) where
       → filter_map hit_of (map (seen_file condition) files) ≡ paths_of (filter (passes condition) (table_of condition.offset (entries_of files) (answers_of files)))
   hits_seen [] = refl
   hits_seen (file ∷ files) =
-      let given = outcome condition.offset (answer_of file) in
+      let given = import_result condition.offset (answer_of file) in
       ap (cons_option (hit_at file.entry.path (seen_as condition file.entry.path given))) (hits_seen files)
       ∙ hits_more file.entry.path given (table_of condition.offset (entries_of files) (answers_of files))
 

@@ -5,7 +5,7 @@ use Rattle.std.proofs.lemmas.List.{map-append}
 use Rattle.std.proofs.lemmas.List.Elements.{filter_map-append}
 use Rattle.md_source.specs.Tree.{Content}
 use Rattle.md_source.specs.declared.tree.Entry.{Entry}
-use Rattle.md_files.specs.FileAnswers.{FileAnswer, InTurn, InTurnSoFar, IsRead, outcome}
+use Rattle.md_files.specs.FileAnswers.{FileAnswer, InTurn, InTurnSoFar, IsRead, import_result}
 use Rattle.md_files.specs.Folders.{AreRead}
 use Rattle.md_files.specs.Findings.{read_findings}
 use Rattle.md_files.specs.Findings.Finding.{listed}
@@ -47,11 +47,11 @@ module _ (known : Option Content) (before between : ℕ) (offset : ℤ) (entries
   -- what became of files, and then of others
   pub findings_join : AreRead known before between entries answers → read_findings offset (entries ++ batch) (answers ++ others) ≡ read_findings offset entries answers ++ read_findings offset batch others
   findings_join turn =
-      ap (map (λ (pair : Entry × FileAnswer). listed pair.0.path (outcome offset pair.1))) (zip_join (IsRead known) between before entries answers batch others turn)
-      ∙ map-append (λ (pair : Entry × FileAnswer). listed pair.0.path (outcome offset pair.1)) (zip entries answers) (zip batch others)
+      ap (map (λ (pair : Entry × FileAnswer). listed pair.0.path (import_result offset pair.1))) (zip_join (IsRead known) between before entries answers batch others turn)
+      ∙ map-append (λ (pair : Entry × FileAnswer). listed pair.0.path (import_result offset pair.1)) (zip entries answers) (zip batch others)
 
   -- the table of files, and then of others
   pub table_join : AreRead known before between entries answers → table_of offset (entries ++ batch) (answers ++ others) ≡ table_of offset entries answers ++ table_of offset batch others
   table_join turn =
-      ap (filter_map (λ (pair : Entry × FileAnswer). row_of pair.0.path (outcome offset pair.1))) (zip_join (IsRead known) between before entries answers batch others turn)
-      ∙ filter_map-append (λ (pair : Entry × FileAnswer). row_of pair.0.path (outcome offset pair.1)) (zip entries answers) (zip batch others)
+      ap (filter_map (λ (pair : Entry × FileAnswer). row_of pair.0.path (import_result offset pair.1))) (zip_join (IsRead known) between before entries answers batch others turn)
+      ∙ filter_map-append (λ (pair : Entry × FileAnswer). row_of pair.0.path (import_result offset pair.1)) (zip entries answers) (zip batch others)

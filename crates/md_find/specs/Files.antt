@@ -4,7 +4,7 @@ use Rattle.std.specs.List.{zip, filter_map}
 use Rattle.md_value.specs.Values.{PathBytes}
 use Rattle.md_source.specs.declared.tree.Entry.{Entry}
 use Rattle.md_world.specs.declared.Row.{Row}
-use Rattle.md_files.specs.FileAnswers.{FileAnswer, outcome}
+use Rattle.md_files.specs.FileAnswers.{FileAnswer, import_result}
 use Rattle.md_files.specs.FileAnswers.FileAnswer.{given, absent, failed}
 use Rattle.md_files.specs.Findings.{Finding}
 use Rattle.md_files.specs.Findings.Finding.{listed}
@@ -25,7 +25,7 @@ row_of path _ = None
 
 -- the table of the files that give attributes
 abbrev pub table_of : ℤ → List Entry → List FileAnswer → List Row
-table_of offset entries answers = filter_map (λ pair. row_of pair.0.path (outcome offset pair.1)) (zip entries answers)
+table_of offset entries answers = filter_map (λ pair. row_of pair.0.path (import_result offset pair.1)) (zip entries answers)
 
 -- the answer to the asking of a file
 abbrev pub prefix_answer : Entry → Prefix → FileAnswer
@@ -50,7 +50,7 @@ seen_as condition path bare = seen.Bare bare
 -- what it makes of a file that was read
 abbrev pub seen_file : Condition → ReadFile → SeenFile
 seen_file condition file =
-    record { path = file.entry.path; seen = seen_as condition file.entry.path (outcome condition.offset (answer_of file)) }
+    record { path = file.entry.path; seen = seen_as condition file.entry.path (import_result condition.offset (answer_of file)) }
 
 -- the path of a hit
 abbrev pub hit_at : PathBytes → Seen → Option PathBytes

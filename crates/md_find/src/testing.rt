@@ -1,7 +1,7 @@
 // The files that were read, imported and tested in several threads.
 ghost use Rattle.std.specs.Prelude.{◌≡◌, All, IfOk, map};
 ghost use Rattle.md_value.specs.Values.{IsMoment};
-ghost use Rattle.md_files.specs.FileAnswers.{outcome};
+ghost use Rattle.md_files.specs.FileAnswers.{import_result};
 ghost use Rattle.md_find.specs.Files.{answer_of, seen_as, seen_file};
 
 use crate::reading::{Prefix, ReadFile};
@@ -32,7 +32,7 @@ pub struct SeenFile {
 // What a file that was read gives.
 fn asked(alloc: Global, file: &ReadFile, offset: i32) -> Result<ImportResult, AllocError>
     requires { IsMoment file.now.entry.changed }
-    ensures { IfOk result (λ asked. asked ≡ outcome offset (answer_of file.now)) }
+    ensures { IfOk result (λ asked. asked ≡ import_result offset (answer_of file.now)) }
 {
     match &file.prefix {
         Prefix::Bytes(bytes) => imported(alloc, &file.entry, bytes, offset),

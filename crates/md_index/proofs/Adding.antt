@@ -4,9 +4,9 @@ use Rattle.std.proofs.lemmas.Bool.{false≢true, or_left}
 use Rattle.md_index.specs.Indexed.{lists, Adds}
 use Rattle.md_index.proofs.Bools.{or_nothing}
 
-or_left : (a b c : Bool) → a || b ≡ true → (b ≡ true → c ≡ true) → a || c ≡ true
-or_left true b c h f = refl
-or_left false b c h f = f h
+or_more : (a b c : Bool) → a || b ≡ true → (b ≡ true → c ≡ true) → a || c ≡ true
+or_more true b c h f = refl
+or_more false b c h f = f h
 
 or_same : (a b c : Bool) → (a || b) || c ≡ a || (b || c)
 or_same true b c = refl
@@ -31,7 +31,7 @@ adds_same old new whole f g same adds =
 -- some of the first came, and nothing of the second
 pub adds_first : (a b : List ℕ) (whole : Bool) (f g h : ℕ → Bool) → ((p : ℕ) → f p || g p ≡ h p) → Adds a b whole f → Adds a b false h
 adds_first a b whole f g h is one = record {
-  some = λ p k. or_left (lists a p) (f p) (h p) (one.some p k) (λ e. sym (is p) ∙ or_left (f p) (g p) e);
+  some = λ p k. or_more (lists a p) (f p) (h p) (one.some p k) (λ e. sym (is p) ∙ or_left (f p) (g p) e);
   all = λ w. absurd (false≢true w);
 }
 

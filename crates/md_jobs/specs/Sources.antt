@@ -4,7 +4,7 @@ use Rattle.md_value.specs.Values.{PathBytes}
 use Rattle.md_world.specs.declared.Change.{Change}
 use Rattle.md_world.specs.declared.Change.TheVariants as change
 use Rattle.md_merge.specs.Jobs.{Job}
-use Rattle.md_files.specs.FileAnswers.{FileAnswer, outcome}
+use Rattle.md_files.specs.FileAnswers.{FileAnswer, import_result}
 use Rattle.md_files.specs.FileAnswers.FileAnswer.{given, absent, failed}
 use Rattle.md_files.specs.declared.asking.ImportResult.{ImportResult}
 use Rattle.md_live.specs.Actions.{Action, change_of}
@@ -23,7 +23,7 @@ answer_of file.Failed = failed
 
 -- what the file gives, at an offset from UTC in minutes
 abbrev pub given_by : ℤ → FileSource → ImportResult
-given_by offset source = outcome offset (answer_of source)
+given_by offset source = import_result offset (answer_of source)
 
 -- what is done with a path
 abbrev pub task_action : ℤ → PathBytes → Task → Action

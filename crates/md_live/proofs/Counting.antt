@@ -6,7 +6,7 @@ use Rattle.md_value.specs.Values.{PathBytes}
 use Rattle.md_value.specs.declared.fault.Fault.{Fault}
 use Rattle.md_source.specs.Tree.{Content}
 use Rattle.imp_kind.specs.Imports.{import}
-use Rattle.md_files.specs.FileAnswers.{FileAnswer, IsAsked, IsCounted, of_import, outcome}
+use Rattle.md_files.specs.FileAnswers.{FileAnswer, IsAsked, IsCounted, of_import, import_result}
 use Rattle.md_files.specs.FileAnswers.FileAnswer.{given, absent, failed}
 use Rattle.md_files.specs.declared.asking.ImportResult.{ImportResult}
 use Rattle.md_files.proofs.Counting.{counted_then, counted_same, counted_failed}
@@ -21,7 +21,7 @@ first_failures : (o : Option ImportResult) (givens : List (Option ImportResult))
 first_failures o givens = sym (sum_by-append (λ (o : Option ImportResult). cond (has_failed o) 1 0) (o ∷ []) givens)
 
 module _ (offset : ℤ) (known : Option Content) (before after : ℕ) where
-  answer_counted : (path : PathBytes) (answer : FileAnswer) → IsAsked known before after path answer → IsCounted before after (failures (Some (outcome offset answer) ∷ []))
+  answer_counted : (path : PathBytes) (answer : FileAnswer) → IsAsked known before after path answer → IsCounted before after (failures (Some (import_result offset answer) ∷ []))
   answer_counted path (given entry bytes) asked = import_counted before after (import entry bytes offset) asked.0
   answer_counted path absent asked = counted_same before after asked.0
   answer_counted path failed fails = counted_failed before after fails

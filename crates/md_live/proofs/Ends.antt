@@ -5,7 +5,7 @@ use Rattle.md_value.specs.Values.{PathBytes}
 use Rattle.md_source.specs.Causes.{Rose}
 use Rattle.md_source.specs.Tree.{Content}
 use Rattle.imp_kind.specs.Imports.{import}
-use Rattle.md_files.specs.FileAnswers.{FileAnswer, IsAsked, Fails, outcome}
+use Rattle.md_files.specs.FileAnswers.{FileAnswer, IsAsked, Fails, import_result}
 use Rattle.md_files.specs.FileAnswers.FileAnswer.{given, absent, failed}
 use Rattle.md_files.specs.Findings.{Finding, is_failed, is_absent}
 use Rattle.md_files.specs.Findings.Finding.{named}
@@ -74,7 +74,7 @@ first_known content line lines =
 
 module _ (now offset : ℤ) where
   module _ (known : Option Content) (before after : ℕ) where
-    asked_stands : (path : PathBytes) (answer : FileAnswer) → IsAsked known before after path answer → Stands (is_failed (named path (outcome offset answer))) before after
+    asked_stands : (path : PathBytes) (answer : FileAnswer) → IsAsked known before after path answer → Stands (is_failed (named path (import_result offset answer))) before after
     asked_stands path (given entry bytes) asked = rw (quiet_named path (import entry bytes offset)) asked.0
     asked_stands path absent asked = asked.0
     asked_stands path failed fails = fails
@@ -111,7 +111,7 @@ module _ (now offset : ℤ) where
 
   module _ (content : Content) where
     asked_present : (before after : ℕ) (path : PathBytes) (answer : FileAnswer) → IsAsked (Some content) before after path answer
-        → is_absent (named path (outcome offset answer)) ≡ true → tells_file content path ≡ false
+        → is_absent (named path (import_result offset answer)) ≡ true → tells_file content path ≡ false
     asked_present before after path (given entry bytes) asked is = absurd (not_true _ (there_named path (import entry bytes offset)) is)
     asked_present before after path absent asked is = rw asked.1 refl
     asked_present before after path failed fails is = cc
