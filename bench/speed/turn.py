@@ -153,21 +153,18 @@ fn acts_on_hub<R: Threads + Wait + Sync>(rt: &R, alloc: Global, threads: u8, com
     journal_of(rt, alloc, Hub::new(alloc, Limits::STANDARD), threads, acts, commits)
 }
 
-fn time_acts(rt: &HostRuntime, commits: bool) -> anyhow::Result<()> {
-    let acts = if commits { "draws and commits" } else { "draws and closes" };
-    for threads in [1, 2, 4, 8, 1, 2, 4, 8, 1, 2, 4, 8] {
-        let start = Instant::now(rt)?;
-        let journal = acts_on_hub(rt, rt.alloc(), threads, commits)?;
-        let spent = start.elapsed(rt)?.as_micros().max(1);
-        let entries = journal.len();
-        println!(rt; "turn, {threads} threads, {acts}: {entries} entries, {} acts in a second", entries as u128 * 1_000_000 / spent)?;
+fn main(rt: HostRuntime) -> anyhow::Result<()> {
+    for commits in [false, true] {
+        let acts = if commits { "draws and commits" } else { "draws and closes" };
+        for threads in [1, 2, 4, 8, 1, 2, 4, 8, 1, 2, 4, 8] {
+            let start = Instant::now(&rt)?;
+            let journal = acts_on_hub(&rt, rt.alloc(), threads, commits)?;
+            let spent = start.elapsed(&rt)?.as_micros().max(1);
+            let entries = journal.len();
+            println!(rt; "turn, {threads} threads, {acts}: {entries} entries, {} acts in a second", entries as u128 * 1_000_000 / spent)?;
+        }
     }
     Ok(())
-}
-
-fn main(rt: HostRuntime) -> anyhow::Result<()> {
-    time_acts(&rt, false)?;
-    time_acts(&rt, true)
 }
 """
 
