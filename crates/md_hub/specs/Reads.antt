@@ -1,5 +1,5 @@
 -- How many rows of the store the answer to an event reads.
-use Rattle.std.specs.Prelude.{ℕ, List, Option, None, Some, length}
+use Rattle.std.specs.Prelude.{ℕ, Bool, true, false, List, Option, None, Some, length}
 use Rattle.md_world.specs.declared.Row.{Row}
 use Rattle.md_machine.specs.declared.Event.{Event}
 use Rattle.md_machine.specs.declared.Event.TheVariants as event
@@ -11,6 +11,14 @@ use Rattle.md_query.specs.Reads.{most_reads}
 abbrev pub reads_asked : List Row → (Query → Answered) → Option Query → ℕ
 reads_asked newest ask None = 0
 reads_asked newest ask (Some q) = most_reads newest q.rows (ask q).reply
+
+-- an event that asks a query
+abbrev pub asks_query : Event → Bool
+asks_query (event.Gather client number now) = true
+asks_query (event.Disable client number) = true
+asks_query (event.Enable client number now) = true
+asks_query (event.Poll client number now) = true
+asks_query _ = false
 
 -- the most rows that the answer to an event reads
 abbrev pub reads_of : State → Event → ℕ

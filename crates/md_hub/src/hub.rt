@@ -1,5 +1,5 @@
 // The server: tickets, versions and queries, one event at a time.
-ghost use Rattle.std.specs.Prelude.{◌≡◌, ◌≤◌, ◌<◌, ◌+◌, [], length, IfOk, IfSome, OnOk, OnErr, true, false};
+ghost use Rattle.std.specs.Prelude.{◌≡◌, ◌≤◌, ◌<◌, ◌+◌, [], length, IfOk, IfSome, None, OnOk, OnErr, true, false};
 ghost use Rattle.std.specs.List.{AllByRecursion};
 ghost use Rattle.md_machine.specs.Replies.{delivers, takes_memory};
 ghost use Rattle.md_machine.specs.States.{Query, opening, query_at};
@@ -10,7 +10,8 @@ ghost use Rattle.md_query.specs.Asked.{answered};
 ghost use Rattle.md_store.specs.Places.{kept_of, table_at, places_seen};
 ghost use Rattle.md_hub.specs.Given.{given_by};
 ghost use Rattle.md_hub.specs.KeptRows.{bases, kept_by, kept_after};
-ghost use Rattle.md_hub.specs.Reads.{reads_asked, reads_of, held_reads};
+ghost use Rattle.md_machine.specs.declared.Reply.{Reply as ReplyValue};
+ghost use Rattle.md_hub.specs.Reads.{asks_query, reads_asked, reads_of, held_reads};
 ghost use Rattle.md_hub.specs.Stepping.{IsStep};
 
 use crate::asks::{self, Call};
@@ -193,6 +194,59 @@ impl Hub {
         Reply::Vacuumed
     }
 
+    // What the event asks a query, if it asks one.
+    fn call_of(&self, event: &Event) -> Option<Call>
+        ensures asked { IfSome result (λ call. step self.now.state event.now ≡ step_result self.now.state (answered self.now.state call.ask call.now_ms) (query_at self.now.state.queries call.client call.number)) }
+        ensures kept { IfSome result (λ call. (r : ReplyValue) → kept_after self.now event.now r ≡ self.now.places) }
+        ensures reads { IfSome result (λ call. reads_asked self.now.state.table (answered self.now.state call.ask call.now_ms) (query_at self.now.state.queries call.client call.number) ≤ reads_of self.now.state event.now) }
+        ensures none { result ≡ None → asks_query event.now ≡ false }
+    {
+        match event {
+            Event::Gather {
+                client,
+                number,
+                now_ms,
+            } => Some(call(*client, *number, Ask::Gather, *now_ms)),
+            Event::Disable { client, number } => Some(call(*client, *number, Ask::Disable, 0)),
+            Event::Enable {
+                client,
+                number,
+                now_ms,
+            } => Some(call(*client, *number, Ask::Enable, *now_ms)),
+            Event::Poll {
+                client,
+                number,
+                now_ms,
+            } => Some(call(*client, *number, Ask::Poll, *now_ms)),
+            _ => None,
+        }
+    }
+
+    // The reply to an event that asks no query.
+    fn serve(&mut self, alloc: Global, event: &Event) -> Result<Reply, AllocError>
+        requires { asks_query event.now ≡ false }
+        ensures reply { IfOk result (λ r. r ≡ (step self.old.state event.now).reply) }
+        ensures state { OnOk result (self.new.state ≡ (step self.old.state event.now).state) }
+        ensures err { OnErr result (self.new ≡ self.old) }
+        ensures memory { OnErr result (takes_memory (step self.old.state event.now).reply ≡ true) }
+        ensures kept { IfOk result (λ r. self.new.places ≡ kept_after self.old event.now r) }
+        ensures plain { IfOk result (λ r. delivers r ≡ false) }
+    {
+        match event {
+            Event::Draw { path } => self.draw(path),
+            Event::Commit { ticket, change } => self.commit(*ticket, change),
+            Event::Close { ticket } => Ok(self.close(*ticket)),
+            Event::Create {
+                client,
+                number,
+                spec,
+            } => self.create(alloc, *client, *number, spec),
+            Event::Stop { client, number } => Ok(self.stop(*client, *number)),
+            Event::Vacuum { .. } => Ok(self.vacuum()),
+            _ => unreachable!(),
+        }
+    }
+
     fn answer<L: Ledger>(
         &mut self,
         alloc: Global,
@@ -206,35 +260,9 @@ impl Hub {
         ensures kept { IfOk result (λ r. self.new.places ≡ kept_after self.old event.now r) }
         ensures reads { steps.new ≤ steps.old + reads_of self.old.state event.now }
     {
-        match event {
-            Event::Draw { path } => self.draw(path),
-            Event::Commit { ticket, change } => self.commit(*ticket, change),
-            Event::Close { ticket } => Ok(self.close(*ticket)),
-            Event::Create {
-                client,
-                number,
-                spec,
-            } => self.create(alloc, *client, *number, spec),
-            Event::Gather {
-                client,
-                number,
-                now_ms,
-            } => self.ask(alloc, call(*client, *number, Ask::Gather, *now_ms), steps),
-            Event::Disable { client, number } => {
-                self.ask(alloc, call(*client, *number, Ask::Disable, 0), steps)
-            }
-            Event::Enable {
-                client,
-                number,
-                now_ms,
-            } => self.ask(alloc, call(*client, *number, Ask::Enable, *now_ms), steps),
-            Event::Poll {
-                client,
-                number,
-                now_ms,
-            } => self.ask(alloc, call(*client, *number, Ask::Poll, *now_ms), steps),
-            Event::Stop { client, number } => Ok(self.stop(*client, *number)),
-            Event::Vacuum { .. } => Ok(self.vacuum()),
+        match self.call_of(event) {
+            Some(call) => self.ask(alloc, call, steps),
+            None => self.serve(alloc, event),
         }
     }
 
@@ -247,35 +275,9 @@ impl Hub {
         ensures memory { OnErr result (takes_memory (step self.old.state event.now).reply ≡ true) }
         ensures kept { IfOk result (λ r. self.new.places ≡ kept_after self.old event.now r.0) }
     {
-        match event {
-            Event::Draw { path } => Ok(twice(self.draw(path)?)),
-            Event::Commit { ticket, change } => Ok(twice(self.commit(*ticket, change)?)),
-            Event::Close { ticket } => Ok(twice(self.close(*ticket))),
-            Event::Create {
-                client,
-                number,
-                spec,
-            } => Ok(twice(self.create(alloc, *client, *number, spec)?)),
-            Event::Gather {
-                client,
-                number,
-                now_ms,
-            } => self.ask_twice(alloc, call(*client, *number, Ask::Gather, *now_ms)),
-            Event::Disable { client, number } => {
-                self.ask_twice(alloc, call(*client, *number, Ask::Disable, 0))
-            }
-            Event::Enable {
-                client,
-                number,
-                now_ms,
-            } => self.ask_twice(alloc, call(*client, *number, Ask::Enable, *now_ms)),
-            Event::Poll {
-                client,
-                number,
-                now_ms,
-            } => self.ask_twice(alloc, call(*client, *number, Ask::Poll, *now_ms)),
-            Event::Stop { client, number } => Ok(twice(self.stop(*client, *number))),
-            Event::Vacuum { .. } => Ok(twice(self.vacuum())),
+        match self.call_of(event) {
+            Some(call) => self.ask_twice(alloc, call),
+            None => Ok(twice(self.serve(alloc, event)?)),
         }
     }
 
