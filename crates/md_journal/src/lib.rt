@@ -1,8 +1,13 @@
 //! What is printed of a run of a script by workers beside its clients.
 //!
-//! [`push_journal`] appends the text of a journal, its entries by place.
+//! [`report_run`] makes the report of a run: on out the text of its journal, its entries by place, and behind it what the client
+//! of each query holds that is still live, by client and number; on err the lines on the files of the jobs, in the order of the
+//! script.
 #![tactic(auto)]
 
+mod created;
+mod held;
+mod report;
 mod text;
 
-pub use text::push_journal;
+pub use report::report_run;

@@ -8,7 +8,7 @@ use md_turn::JournalEntry;
 use std::alloc::AllocError;
 
 /// Appends the text of a journal's entries, which stand by place, from 1. Fails only where memory is refused.
-pub fn push_journal(text: &mut String, journal: &[JournalEntry]) -> Result<(), AllocError>
+pub(crate) fn push_journal(text: &mut String, journal: &[JournalEntry]) -> Result<(), AllocError>
     ensures { OnOk result (string_bytes text.new ≡ string_bytes text.old ++ journal_text 1 (entries_in journal.now)) }
 {
     let mut place = 1;

@@ -17,11 +17,20 @@ use Rattle.md_words.specs.Find.{find_options_of}
 abbrev pub most_made : ℕ
 most_made = 10_000
 
--- whether the words can ask for a tool: `gen` makes at least one file
+-- the most workers that `live` runs jobs by
+abbrev pub most_workers : ℕ
+most_workers = 64
+
+-- whether the words can ask for a tool: `live` has at least one worker, if it has any, and `gen` makes at least one file
 abbrev pub is_offered : Tool → Bool
-is_offered (tool.Live (Some workers)) = false
+is_offered (tool.Live (Some workers)) = nat_lt 0 workers && nat_le workers most_workers
 is_offered (tool.Gen start count) = nat_lt 0 count && nat_le count most_made
 is_offered _ = true
+
+-- how many workers a tool runs the jobs of a script by, if it does
+abbrev pub workers_of : Tool → Option ℕ
+workers_of (tool.Live workers) = workers
+workers_of _ = None
 
 -- the tool, where no word follows
 abbrev pub alone : Tool → List (List ℕ) → Option Tool
@@ -58,6 +67,16 @@ import_of (word ∷ words) =
     else (if begins_with_dash word then None
     else option_map tool.Import (files_of (word ∷ words)))))
 
+-- `N`: from 1 to the most workers
+abbrev pub by_workers : List (List ℕ) → Option Tool
+by_workers (count ∷ []) = option_map (λ n. tool.Live (Some n)) (number_in 1 most_workers count)
+by_workers _ = None
+
+-- `[ "--workers" N ]`
+unfoldable pub live_of : List (List ℕ) → Option Tool
+live_of [] = Some (tool.Live None)
+live_of (word ∷ words) = if bytes_eq word (codes "--workers") then by_workers words else None
+
 -- `START N`: a number of 64 bits, and from 1 to the most files that are made
 unfoldable pub gen_of : List (List ℕ) → Option Tool
 gen_of (start ∷ count ∷ []) = option_and_then (λ s. option_map (λ n. tool.Gen s n) (number_in 1 most_made count)) (number_in 0 18446744073709551615 start)
@@ -70,7 +89,7 @@ tool_of (word ∷ words) =
     if bytes_eq word (codes "mdfind") then find_of words
     else (if bytes_eq word (codes "mdls") then show_of words
     else (if bytes_eq word (codes "mdimport") then import_of words
-    else (if bytes_eq word (codes "live") then alone (tool.Live None) words
+    else (if bytes_eq word (codes "live") then live_of words
     else (if bytes_eq word (codes "gen") then gen_of words
     else None))))
 

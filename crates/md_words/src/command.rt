@@ -49,8 +49,10 @@ pub enum Tool {
     Importers,
     /// `mdimport -A`: the attributes of the schema.
     Attributes,
-    /// `live`: the run of a script, by this many workers if any are asked for; no reader gives workers yet.
+    /// `live`: the run of a script.
     Live {
+        /// How many workers the jobs are run by, from 1 to 64, beside a thread for each client, or `None` where the lines are
+        /// run one after the other.
         workers: Option<u32>,
     },
     /// `gen`: the run of a script over files, all of which are made from `start`.

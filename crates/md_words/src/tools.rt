@@ -4,7 +4,7 @@ ghost use Rattle.std.specs.Option.{option_map};
 ghost use Rattle.md_words.specs.Words.{texts, text_of, files_of};
 ghost use Rattle.md_words.specs.declared.command.Mode.TheVariants.{Guess};
 ghost use Rattle.md_words.specs.declared.command.Tool.TheVariants.{Import};
-ghost use Rattle.md_words.specs.Grammar.{is_offered, alone, search_by, find_of, shown, show_of, import_of, gen_of, tool_of};
+ghost use Rattle.md_words.specs.Grammar.{is_offered, alone, search_by, find_of, shown, show_of, import_of, by_workers, live_of, gen_of, tool_of};
 
 use crate::files::{files_below_root, files_of};
 use crate::find::{FindOptions, find_options_of};
@@ -17,6 +17,9 @@ use std::alloc::{AllocError, Global};
 
 /// The most files that `gen` makes.
 pub const MOST_MADE: u32 = 10_000;
+
+/// The most workers that `live` runs jobs by.
+pub const MOST_WORKERS: u32 = 64;
 
 fn alone(tool: Tool, words: &[String]) -> Option<Tool>
     ensures same { IfSome result (λ given. given ≡ tool) }
@@ -153,6 +156,34 @@ fn import_of(alloc: Global, words: &[String]) -> Result<Option<Tool>, AllocError
     import_files(alloc, words)
 }
 
+#[tactic(auto, using(std::proofs::lemmas::Bool::Decides::nat_tests))]
+fn by_workers(words: &[String]) -> Option<Tool>
+    ensures offered { IfSome result (λ given. is_offered given ≡ true) }
+    ensures value { result ≡ by_workers (texts words.now) }
+{
+    let [count] = words else {
+        return None;
+    };
+    let count = number_in(1, MOST_WORKERS as u64, count.as_str())?;
+    Some(Tool::Live {
+        workers: Some(count as u32),
+    })
+}
+
+#[tactic(auto, unfolding(crate::specs::Grammar::live_of))]
+fn live_of(words: &[String]) -> Option<Tool>
+    ensures offered { IfSome result (λ given. is_offered given ≡ true) }
+    ensures value { result ≡ live_of (texts words.now) }
+{
+    let Some((word, rest)) = first_word(words) else {
+        return Some(Tool::Live { workers: None });
+    };
+    if word == "--workers" {
+        return by_workers(rest);
+    }
+    None
+}
+
 #[tactic(auto, using(std::proofs::lemmas::Bool::Decides::nat_tests), unfolding(crate::specs::Grammar::gen_of))]
 fn gen_of(words: &[String]) -> Option<Tool>
     ensures offered { IfSome result (λ given. is_offered given ≡ true) }
@@ -188,7 +219,7 @@ pub fn tool_of(alloc: Global, words: &[String]) -> Result<Option<Tool>, AllocErr
         return import_of(alloc, rest);
     }
     if word == "live" {
-        return Ok(alone(Tool::Live { workers: None }, rest));
+        return Ok(live_of(rest));
     }
     if word == "gen" {
         return Ok(gen_of(rest));
