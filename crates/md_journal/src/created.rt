@@ -36,10 +36,7 @@ fn keep(keys: &mut Vec<u64>, key: Option<u64>) -> Result<(), AllocError>
 }
 
 /// The keys of the queries that the events create, in order. Fails only where memory is refused.
-pub(crate) fn created_keys(
-    alloc: Global,
-    journal: &[JournalEntry],
-) -> Result<Vec<u64>, AllocError>
+pub(crate) fn created_keys(alloc: Global, journal: &[JournalEntry]) -> Result<Vec<u64>, AllocError>
     ensures { IfOk result (λ keys. keys.items ≡ filter_map created_key (events_in journal.now)) }
 {
     let mut keys = Vec::new(alloc);

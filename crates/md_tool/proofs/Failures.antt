@@ -59,7 +59,7 @@ tool_counted offset old new (tool.Import files) report asks = are_found_counted 
 tool_counted offset old new tool.Importers report asks = counted_same old.tree.faults new.tree.faults (ap (λ (i : Inputs). i.tree.faults) asks.0)
 tool_counted offset old new tool.Attributes report asks = counted_same old.tree.faults new.tree.faults (ap (λ (i : Inputs). i.tree.faults) asks.0)
 tool_counted offset old new (tool.Live None) report asks = live_counted offset old new report asks
-tool_counted offset old new (tool.Live (Some workers)) report asks = absurd asks
+tool_counted offset old new (tool.Live (Some workers)) report asks = live_counted offset old new asks.1.alone asks.1.lives
 tool_counted offset old new (tool.Gen start count) report asks = counted_same old.tree.faults new.tree.faults (ap (λ (i : Inputs). i.tree.faults) asks.0)
 
 pub command_counted : (command : Command) (old new : Inputs) (report : Report) (asks : CommandAsks command old new report)

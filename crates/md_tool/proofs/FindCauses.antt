@@ -82,7 +82,7 @@ module _ (offset : ℤ) (zero count : Bool) (scope : PathBytes) (name : Option (
     -- what the status of what the search gives tells
     pub found_tells : (made : SearchResult) → IsGiven search old.tree new.tree made → TellsFirst offset what old new (of_found made).status
     found_tells (found.Report report) given =
-        ended_tells offset what old new (λ live. cc (live)) report.end given.cause
+        ended_tells offset what old new (λ live. live) report.end given.cause
         (λ ends. if_some old.tree.known (λ content. has_folder content.folders scope ≡ false)
         (λ content known. at_some old.tree.known (λ content. report.end ≡ ended.Absent → has_folder content.folders scope ≡ false) content known given.absent ends))
         (ends_well (found.Report report) given)

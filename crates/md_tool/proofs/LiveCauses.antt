@@ -167,17 +167,17 @@ module _ (offset : ℤ) (old new : Inputs) where
       let found = absent_answered offset bytes old.clock new.clock old.tree new.tree content holds r answers e in
       (found.0, sym (known_verdict old.script new.script bytes left is known) ∙ found.1, found.2)
 
-  whole_live : IsReady offset old (tool.Live None) → ¬ (InputFails old new) → (r : Report) → Lives offset old new r → IsWhole (tool.Live None) new r.status
-  whole_live ready quiet _ (unread rose clock tree) = absurd (quiet (inr (inl rose)))
-  whole_live ready quiet _ (read bytes r is answers) =
+  whole_live : (workers : Option ℕ) → IsReady offset old (tool.Live workers) → ¬ (InputFails old new) → (r : Report) → Lives offset old new r → IsWhole (tool.Live workers) new r.status
+  whole_live workers ready quiet _ (unread rose clock tree) = absurd (quiet (inr (inl rose)))
+  whole_live workers ready quiet _ (read bytes r is answers) =
       let same = known_verdict old.script new.script bytes ready.0 is ready.1 in
       let accepted = ready.2 in
       let ok = whole_answered offset bytes old.clock new.clock old.tree new.tree (accepted.0, same ∙ accepted.1, accepted.2, accepted.3)
       (λ rose. quiet (inl rose)) (λ rose. quiet (inr (inr rose))) r answers in
       (ok.0, λ live. is.end ok.1)
 
-  pub live_tells : (r : Report) → Lives offset old new r → TellsFirst offset (tool.Live None) old new r.status
-  live_tells r lives = (
+  pub live_tells : (workers : Option ℕ) (r : Report) → Lives offset old new r → TellsFirst offset (tool.Live workers) old new r.status
+  live_tells workers r lives = (
     record {
       usage = live_status (IsNot status.Usage) (λ x. cc) (λ x. cc) (λ x. cc) (λ x. cc) (λ x. cc) (λ x. cc) r lives;
       expression = λ is. if_some old.script.known (λ left. IfSome old.clock.known (λ moment. HasFormOut moment offset left))
@@ -189,5 +189,5 @@ module _ (offset : ℤ) (old new : Inputs) where
       full = λ is. absurd (live_status (IsNot status.Full) (λ x. cc) (λ x. cc) (λ x. cc) (λ x. cc) (λ x. cc) (λ x. cc) r lives is);
     },
     live_status (IsNot status.WriteFault) (λ x. cc) (λ x. cc) (λ x. cc) (λ x. cc) (λ x. cc) (λ x. cc) r lives,
-    λ ready quiet. whole_live ready quiet r lives,
+    λ ready quiet. whole_live workers ready quiet r lives,
   )

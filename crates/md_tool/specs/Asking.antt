@@ -1,5 +1,5 @@
 -- What commands ask of the tree, the script and the clock, and what is printed of it.
-use Rattle.std.specs.Prelude.{◌≡◌, ℕ, ℤ, Bool, if◌then◌else◌, List, codes, None, Some, Result, Ok, Err}
+use Rattle.std.specs.Prelude.{◌≡◌, ℕ, ℤ, Bool, if◌then◌else◌, List, [], codes, Option, None, Some, Result, Ok, Err}
 use Rattle.md_expr_parse.specs.declared.read.ReadError.{ReadError}
 use Rattle.md_expr_tree.specs.declared.tree.Expr.{Expr}
 use Rattle.md_files.specs.Answers.{IsAsked, InTurnSoFar}
@@ -7,19 +7,26 @@ use Rattle.md_files.specs.Folders.{AreFoundSoFar}
 use Rattle.md_files.specs.Reports as files
 use Rattle.md_files.specs.Reports.{Shows, Imports}
 use Rattle.md_files.specs.Tables.{importers_text, attributes_text}
+use Rattle.md_files.specs.declared.asking.ImportResult.{ImportResult}
 use Rattle.md_find.specs.Finds as search
 use Rattle.md_find.specs.Folders.{IsHeldSoFar}
 use Rattle.md_find.specs.Searches.{search_of}
 use Rattle.md_find.specs.declared.finding.SearchResult.{SearchResult}
 use Rattle.md_find.specs.declared.finding.Output.{Output}
 use Rattle.md_find.specs.declared.finding.Output.TheVariants as output
+use Rattle.md_jobs.specs.Scripts.{Merge, jobs_of}
+use Rattle.md_journal.specs.Printing.{IsPrinted}
+use Rattle.md_live.specs.Actions.{actions_of}
 use Rattle.md_live.specs.Given.{IsGiven}
 use Rattle.md_live.specs.Headline.{Headline}
 use Rattle.md_live.specs.TimeForms.{out_of_range}
+use Rattle.md_merge.specs.Jobs.{table_of}
+use Rattle.md_merge.specs.Laws.{last_table, NeverFull}
 use Rattle.md_script.specs.declared.script.Line.{Line}
 use Rattle.md_script.specs.declared.script.ScriptError.{ScriptError}
 use Rattle.md_script.specs.Scripts.{verdict}
 use Rattle.md_summary.specs.Summary.{Summarizes}
+use Rattle.md_turn.specs.declared.journal.JournalEntry.{JournalEntry}
 use Rattle.md_value.specs.Values.{PathBytes}
 use Rattle.md_words.specs.Grammar.{command_of}
 use Rattle.md_words.specs.declared.command.Command.{Command}
@@ -60,6 +67,41 @@ pub data Lives (offset : ℤ) (old new : Inputs) : Report → Type 0 where
   read : (bytes : List ℕ) (report : Report) → IsRead old.script new.script bytes → Answers offset bytes old.clock new.clock old.tree new.tree report
       → Lives offset old new report
 
+-- The run of lines by workers, with what the tree gave to each line. The journal is merged of the script; out has what is
+-- printed of it, and all else is as it is without workers.
+pub record RunsByWorkers (now offset : ℤ) (lines : List Line) (givens : List (Option ImportResult)) (alone : files.FileReport) (journal : List JournalEntry) (report : Report) : Type 0 where
+  pub merge : Merge now offset lines givens journal
+  -- The last table is that of the jobs' changes, one after the other in the order of the lines.
+  pub table : last_table journal ≡ table_of (jobs_of (actions_of now offset lines givens))
+  -- A ticket and room for a path were always left.
+  pub room : NeverFull journal
+  pub printed : IsPrinted journal report.out
+  pub is : report ≡ of_files (record alone { out = report.out })
+
+-- What is printed by workers where lines ask this of the tree without workers: the same with an empty journal, unless the lines
+-- are run.
+abbrev pub LinesByWorkers : (now offset : ℤ) (lines : List Line) (old new : Files) (alone : Report) → LinesAsk now offset lines old new alone → List JournalEntry → Report → Type 0
+LinesByWorkers now offset lines old new alone (misdated line form out same) journal report = (report ≡ alone) × (journal ≡ [])
+LinesByWorkers now offset lines old new _ (run made none headline same) journal report = RunsByWorkers now offset lines headline.runs.givens made journal report
+
+-- the same of a script in bytes
+abbrev pub ScriptByWorkers : (offset : ℤ) (bytes : List ℕ) (clock shown : Shown) (old new : Files) (alone : Report) → Answers offset bytes clock shown old new alone → List JournalEntry → Report → Type 0
+ScriptByWorkers offset bytes clock shown old new alone (refuses e is same kept) journal report = (report ≡ alone) × (journal ≡ [])
+ScriptByWorkers offset bytes clock shown old new alone (unclocked lines is rose kept) journal report = (report ≡ alone) × (journal ≡ [])
+ScriptByWorkers offset bytes clock shown old new alone (runs lines now made is shows asks) journal report = LinesByWorkers now offset lines old new made asks journal report
+
+-- the same of `live`
+abbrev pub LiveByWorkers : (offset : ℤ) (old new : Inputs) (alone : Report) → Lives offset old new alone → List JournalEntry → Report → Type 0
+LiveByWorkers offset old new alone (unread rose clock tree) journal report = (report ≡ alone) × (journal ≡ [])
+LiveByWorkers offset old new alone (read bytes made is answers) journal report = ScriptByWorkers offset bytes old.clock new.clock old.tree new.tree made answers journal report
+
+-- What `live` by workers asks at an offset, and what is printed of it and of its journal: it asks what `live` asks without
+-- workers, and ends as that does.
+pub record LivesByWorkers (offset : ℤ) (old new : Inputs) (journal : List JournalEntry) (report : Report) : Type 0 where
+  pub alone : Report
+  pub lives : Lives offset old new alone
+  pub is : LiveByWorkers offset old new alone lives journal report
+
 -- how the paths that are found are printed: their number takes the place of zero bytes behind them
 abbrev pub output_of : Bool → Bool → Output
 output_of zero count = if count then output.Count else if zero then output.Zeros else output.Lines
@@ -82,7 +124,7 @@ ToolAsks offset old new (tool.Import files) report = OfFiles old new (Imports ol
 ToolAsks offset old new tool.Importers report = (new ≡ old) × (report ≡ plain importers_text)
 ToolAsks offset old new tool.Attributes report = (new ≡ old) × (report ≡ plain attributes_text)
 ToolAsks offset old new (tool.Live None) report = Lives offset old new report
-ToolAsks offset old new (tool.Live (Some workers)) report = ⊥
+ToolAsks offset old new (tool.Live (Some workers)) report = (journal : List JournalEntry) × LivesByWorkers offset old new journal report
 ToolAsks offset old new (tool.Gen start count) report = (new ≡ old) × (text : List ℕ) × Summarizes start count text × (report ≡ plain text)
 
 -- what a command asks, and what is printed of it

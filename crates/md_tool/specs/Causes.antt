@@ -32,7 +32,8 @@ OutputFails before after = Fails before.err after.err ⊎ Fails before.out after
 
 -- the tool is the run of a script
 abbrev pub IsLive : Tool → Type 0
-IsLive what = what ≡ tool.Live None
+IsLive (tool.Live workers) = Unit {0}
+IsLive _ = ⊥
 
 -- the script is refused
 abbrev pub IsRefused : List ℕ → Type 0
@@ -52,14 +53,14 @@ SearchHasFormOut now offset query = (expr : Expr) × (form : ℕ) × (query ≡ 
 
 -- the search text is refused, or a form of time of it or of the script is out of range
 abbrev pub RefusesExpression : ℤ → Inputs → Tool → Type 0
-RefusesExpression offset inputs (tool.Live None) = IfSome inputs.script.known (λ bytes. IfSome inputs.clock.known (λ now. HasFormOut now offset bytes))
+RefusesExpression offset inputs (tool.Live workers) = IfSome inputs.script.known (λ bytes. IfSome inputs.clock.known (λ now. HasFormOut now offset bytes))
 RefusesExpression offset inputs (tool.Find zero count scope name mode text) =
     IsRefusedText (search_of name mode text) ⊎ IfSome inputs.clock.known (λ now. SearchHasFormOut now offset (search_of name mode text))
 RefusesExpression offset inputs _ = ⊥
 
 -- the script that a tool runs is refused
 abbrev pub RefusesScript : Inputs → Tool → Type 0
-RefusesScript inputs (tool.Live None) = IfSome inputs.script.known IsRefused
+RefusesScript inputs (tool.Live workers) = IfSome inputs.script.known IsRefused
 RefusesScript inputs _ = ⊥
 
 -- the script is read as lines, of which one imports a file that is not in the tree's content
@@ -72,7 +73,7 @@ abbrev pub LacksNamed : Inputs → Tool → Type 0
 LacksNamed inputs (tool.Find zero count scope name mode text) = IfSome inputs.tree.known (λ content. has_folder content.folders scope ≡ false)
 LacksNamed inputs (tool.Show raw marker names files) = IfSome inputs.tree.known (λ content. tells_files content files ≡ false)
 LacksNamed inputs (tool.Import files) = IfSome inputs.tree.known (λ content. tells_all content files ≡ false)
-LacksNamed inputs (tool.Live None) = IfSome inputs.tree.known (λ content. IfSome inputs.script.known (LacksImport content))
+LacksNamed inputs (tool.Live workers) = IfSome inputs.tree.known (λ content. IfSome inputs.script.known (LacksImport content))
 LacksNamed inputs _ = ⊥
 
 -- the folder of `mdfind` has too many files
@@ -107,7 +108,7 @@ abbrev pub IsReady : ℤ → Inputs → Tool → Type 0
 IsReady offset inputs (tool.Find zero count scope name mode text) =
     (content : Content) × (expr : Expr) × (inputs.tree.known ≡ Some content) × (search_of name mode text ≡ Ok expr)
     × IsInRange offset inputs.clock expr × HasFew content scope
-IsReady offset inputs (tool.Live None) =
+IsReady offset inputs (tool.Live workers) =
     (bytes : List ℕ) × (inputs.script.known ≡ Some bytes) × IsAccepted offset inputs.clock inputs.tree.known bytes
 IsReady offset inputs (tool.Show raw marker names files) = (content : Content) × (inputs.tree.known ≡ Some content) × (tells_files content files ≡ true)
 IsReady offset inputs (tool.Import files) = (content : Content) × (inputs.tree.known ≡ Some content) × (tells_all content files ≡ true)

@@ -60,6 +60,7 @@ of_tool offset old new (tool.Find zero count scope name mode text) report asks =
 of_tool offset old new (tool.Show raw marker names files) report asks = answered.failures asks.makes.answers
 of_tool offset old new (tool.Import files) report asks = all_failures asks.makes.found
 of_tool offset old new (tool.Live None) report asks = of_live offset old new report asks
+of_tool offset old new (tool.Live (Some workers)) report asks = of_live offset old new asks.1.alone asks.1.lives
 of_tool offset old new _ report asks = 0
 
 -- of a command

@@ -17,6 +17,7 @@ mod running;
 mod status;
 mod tools;
 mod top;
+mod workers;
 
 pub use status::{Outcome, Status};
-pub use top::{run, run_tool};
+pub use top::{run, run_live, run_tool};

@@ -28,8 +28,8 @@ fn bad_line(alloc: Global, number: u32) -> Result<Report, AllocError>
     refusal(alloc, Status::Script, line.as_str())
 }
 
-// What refuses a script.
-fn refused_script(alloc: Global, error: ScriptError) -> Result<Report, AllocError>
+/// What refuses a script.
+pub(crate) fn refused_script(alloc: Global, error: ScriptError) -> Result<Report, AllocError>
     ensures report { IfOk result (λ report. report ≡ refused_script error) }
     ensures memory { error ≡ Memory → IsErr result }
 {
@@ -41,7 +41,8 @@ fn refused_script(alloc: Global, error: ScriptError) -> Result<Report, AllocErro
     }
 }
 
-fn line_out_of_range(alloc: Global, line: u32, form: u32) -> Result<Report, AllocError>
+/// A form of time of a line that is out of range.
+pub(crate) fn line_out_of_range(alloc: Global, line: u32, form: u32) -> Result<Report, AllocError>
     ensures { IfOk result (λ report. report ≡ line_out_of_range line form) }
 {
     let line = format!(in alloc; "line {line}: time form {form} out of range")?;

@@ -2,6 +2,8 @@
 ghost use Rattle.std.specs.Prelude.{◌≡◌};
 ghost use Rattle.md_tool.specs.Codes.{code_of};
 
+use md_turn::JournalEntry;
+
 /// How a run ended. The program ends with its number.
 #[derive(Clone, Copy, Debug, PartialEq, Eq)]
 pub enum Status {
@@ -45,8 +47,10 @@ impl Status {
     }
 }
 
-/// How a run ended.
-#[derive(Clone, Copy, Debug, PartialEq, Eq)]
+/// How a run ended, and its journal.
+#[derive(Drop)]
 pub struct Outcome {
     pub status: Status,
+    /// The entries of a run of `live` by workers, by place. Empty where no such run was made, or memory ran out.
+    pub journal: Vec<JournalEntry>,
 }

@@ -1,6 +1,6 @@
 // What a command asks to be printed.
-ghost use Rattle.std.specs.Prelude.{◌≡◌, ◌≤◌, IfOk, true};
-ghost use Rattle.md_words.specs.Grammar.{is_offered};
+ghost use Rattle.std.specs.Prelude.{◌≡◌, ◌≤◌, IfOk, None, true};
+ghost use Rattle.md_words.specs.Grammar.{is_offered, workers_of};
 ghost use Rattle.md_words.specs.declared.command.Tool.TheVariants.{Show, Import};
 ghost use Rattle.md_tool.specs.Outside.{Bytes, Shown, inputs};
 ghost use Rattle.md_tool.specs.Asking.{OfFiles, ToolAsks, Leaves, AsksSoFar};
@@ -76,7 +76,8 @@ pub(crate) fn asked<R: Threads + Sync, T: Tree, S: Source, C: Clock>(
     script: &mut S,
     clock: &mut C,
 ) -> Result<Report, AllocError>
-    requires { is_offered command.now.what ≡ true }
+    requires offered { is_offered command.now.what ≡ true }
+    requires alone { workers_of command.now.what ≡ None }
     ensures asks { IfOk result (λ report. ToolAsks command.now.offset
         (inputs (T.content tree.old) (T.faults tree.old) (S.left script.old) (S.faults script.old) (C.moment clock.old) (C.faults clock.old))
         (inputs (T.content tree.new) (T.faults tree.new) (S.left script.new) (S.faults script.new) (C.moment clock.new) (C.faults clock.new))

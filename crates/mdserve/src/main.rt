@@ -1,13 +1,14 @@
 //! The metadata server's program.
 #![tactic(auto)]
 
-use md_source::{Clock, Folder, MachineClock, Reading, Sink, Source, Tree, Writing};
+use md_source::{Clock, Folder, Gate, MachineClock, OpenGate, Reading, Sink, Source, Tree, Writing};
 use md_tool::{Status, run};
 use std::alloc::Global;
 use std::env;
 use std::io::{self, ErrorKind};
 use std::process::ExitCode;
 use std::rt::Env;
+use std::sync::Wait;
 use std::thread::Threads;
 
 // The words after the program's name.
@@ -20,7 +21,15 @@ fn words_of(rt: &(impl Env + AllocGlobal), alloc: Global) -> io::Result<Vec<Stri
 }
 
 // The status of the top call. What its contract says is no concern of the caller's.
-fn status_of<R: Threads + Sync + AllocGlobal, T: Tree, S: Source, C: Clock, K: Sink, E: Sink>(
+fn status_of<
+    R: Threads + Wait + Sync + AllocGlobal,
+    T: Tree,
+    S: Source,
+    C: Clock,
+    K: Sink,
+    E: Sink,
+    G: Gate + Sync,
+>(
     rt: &R,
     words: &[String],
     tree: &mut T,
@@ -28,8 +37,10 @@ fn status_of<R: Threads + Sync + AllocGlobal, T: Tree, S: Source, C: Clock, K: S
     clock: &mut C,
     out: &mut K,
     err: &mut E,
+    gate: &G,
 ) -> Status {
-    run(rt, rt.alloc(), words, tree, script, clock, out, err).status
+    let alloc = rt.alloc();
+    run(rt, alloc, words, tree, script, clock, out, err, gate).status
 }
 
 fn main(rt: HostRuntime) -> ExitCode {
@@ -50,6 +61,7 @@ fn main(rt: HostRuntime) -> ExitCode {
         &mut MachineClock::new(rt),
         &mut Writing::new(rt.stdout()),
         &mut Writing::new(rt.stderr()),
+        &OpenGate,
     );
     ExitCode::from(status.code())
 }

@@ -1,4 +1,4 @@
-use Rattle.std.proofs.Common.{inl, inr, refl, rules, FitsSigned, w32}
+use Rattle.std.proofs.Common.{inl, inr, None, refl, rules, FitsSigned, w32}
 use Rattle.std.proofs.lemmas.Int.{to_z-of_z}
 use Rattle.md_tool.specs.Outside.{IsRead, inputs}
 use Rattle.md_tool.specs.Asking.LivesSoFar.{without_fault, in_lines}
@@ -14,7 +14,7 @@ returns-in-Err-Failed-clause-asks g c =
     (search rules) refl refl) c.refusal.result c.refusal.ensures
 
 pub returns-in-Err-Failed-clause-tells : goal.returns-in-Err-Failed-clause-tells
-returns-in-Err-Failed-clause-tells g c = ok_then _ _ (live_tells c.args.offset _ _) c.refusal.result (returns-in-Err-Failed-clause-asks g c)
+returns-in-Err-Failed-clause-tells g c = ok_then _ _ (live_tells c.args.offset _ _ None) c.refusal.result (returns-in-Err-Failed-clause-asks g c)
 
 pub returns-in_ok-report-in-Ok-clause-asks : goal.returns-in_ok-report-in-Ok-clause-asks
 returns-in_ok-report-in-Ok-clause-asks g c =
@@ -23,7 +23,7 @@ returns-in_ok-report-in-Ok-clause-asks g c =
     lives_read c.args.offset _ _ c.in-Ok.bytes.items _ read (search rules)
 
 pub returns-in_ok-report-in-Ok-clause-tells : goal.returns-in_ok-report-in-Ok-clause-tells
-returns-in_ok-report-in-Ok-clause-tells g c = live_tells c.args.offset _ _ _ (returns-in_ok-report-in-Ok-clause-asks g c)
+returns-in_ok-report-in-Ok-clause-tells g c = live_tells c.args.offset _ _ None _ (returns-in_ok-report-in-Ok-clause-asks g c)
 
 pub returns-in_err-report-in-Ok-clause-so_far : goal.returns-in_err-report-in-Ok-clause-so_far
 returns-in_err-report-in-Ok-clause-so_far g c =
