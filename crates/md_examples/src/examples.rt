@@ -14,13 +14,14 @@ use listing::files_below;
 use running::check;
 use std::fs::{self, Files};
 use std::io;
+use std::sync::Wait;
 use std::thread::Threads;
 pub use tally::Tally;
 
 /// Runs the examples of a folder's folders, and prints for each whether it printed what it wants.
 pub fn run<R>(rt: &R, folder: &str) -> io::Result<Tally>
 where
-    R: Files + AllocGlobal + Clone + Drop + Threads + Sync + Print,
+    R: Files + AllocGlobal + Clone + Drop + Threads + Wait + Sync + Print,
 {
     let alloc = rt.alloc();
     let mut tally = Tally::new();
@@ -35,7 +36,7 @@ where
 
 fn check_file<R>(rt: &R, path: &str) -> Result<Vec<String>, Fault>
 where
-    R: Files + AllocGlobal + Threads + Sync,
+    R: Files + AllocGlobal + Threads + Wait + Sync,
 {
     let text = fs::read_to_string(rt, path)?;
     check(rt, rt.alloc(), &text)

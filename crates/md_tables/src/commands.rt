@@ -86,7 +86,9 @@ fn push_tool(shown: &mut String, tool: &Tool) -> Result<(), AllocError> {
         Tool::Importers => shown.push_str(" importers"),
         Tool::Attributes => shown.push_str(" attributes"),
         Tool::Live { workers: None } => shown.push_str(" live"),
-        Tool::Live { workers: Some(_) } => shown.push_str(" workers"),
+        Tool::Live {
+            workers: Some(workers),
+        } => write!(shown, " live by {workers}"),
         Tool::Gen { start, count } => write!(shown, " gen {start} {count}"),
     }
 }

@@ -3,4 +3,5 @@ mod Ending
 mod Failures
 mod FindCauses
 mod LiveCauses
+mod ByWorkers
 mod Scripts

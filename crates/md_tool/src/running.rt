@@ -37,17 +37,6 @@ fn print<K: Sink, E: Sink>(report: Result<Report, AllocError>, out: &mut K, err:
     status
 }
 
-// An outcome without a journal.
-fn without_journal(alloc: Global, status: Status) -> Outcome
-    ensures status { result.status ≡ status }
-    ensures journal { result.journal.items ≡ [] }
-{
-    Outcome {
-        status,
-        journal: Vec::new(alloc),
-    }
-}
-
 // The journal that a run with this status hands back.
 fn journal_at(alloc: Global, status: Status, journal: Vec<JournalEntry>) -> Vec<JournalEntry>
     ensures { result.items ≡ journal_at status journal.items }
@@ -87,7 +76,11 @@ pub(crate) fn run_command<R: Threads + Sync, T: Tree, S: Source, C: Clock, K: Si
     ensures journal { result.journal.items ≡ [] }
 {
     let report = asked(rt, alloc, command, tree, script, clock);
-    without_journal(alloc, print(report, out, err))
+    let status = print(report, out, err);
+    Outcome {
+        status,
+        journal: Vec::new(alloc),
+    }
 }
 
 /// Runs `live` by workers, as [`run_live`](crate::run_live) says of it in one.
@@ -238,7 +231,13 @@ pub(crate) fn run_words<
 {
     match read_words(alloc, words) {
         Ok(command) => run_either(rt, alloc, &command, tree, script, clock, out, err, gate),
-        Err(WordsError::Usage) => without_journal(alloc, print(usage(alloc), out, err)),
-        Err(WordsError::Memory) => without_journal(alloc, Status::Memory),
+        Err(WordsError::Usage) => Outcome {
+            status: print(usage(alloc), out, err),
+            journal: Vec::new(alloc),
+        },
+        Err(WordsError::Memory) => Outcome {
+            status: Status::Memory,
+            journal: Vec::new(alloc),
+        },
     }
 }

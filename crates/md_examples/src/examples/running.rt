@@ -4,15 +4,17 @@ use crate::examples::example::Example;
 use crate::examples::fault::Fault;
 use crate::examples::header::Stream;
 use md_source::{
-    Clock, MemoryClock, MemorySink, MemorySource, MemoryTree, Sink, Source, Tree, is_content,
+    Clock, Gate, MemoryClock, MemorySink, MemorySource, MemoryTree, OpenGate, Sink, Source, Tree,
+    is_content,
 };
 use md_tool::{Status, run};
 use md_value::{HIGH, LOW};
 use std::alloc::Global;
+use std::sync::Wait;
 use std::thread::Threads;
 
 /// Runs an example, and says where it differs from what is wanted.
-pub fn check<R: Threads + Sync>(rt: &R, alloc: Global, text: &str) -> Result<Vec<String>, Fault> {
+pub fn check<R: Threads + Wait + Sync>(rt: &R, alloc: Global, text: &str) -> Result<Vec<String>, Fault> {
     let example = Example::read(alloc, text)?;
     match example.settings.fails.each {
         None => differences(rt, alloc, example),
@@ -20,7 +22,7 @@ pub fn check<R: Threads + Sync>(rt: &R, alloc: Global, text: &str) -> Result<Vec
     }
 }
 
-fn differences<R: Threads + Sync>(
+fn differences<R: Threads + Wait + Sync>(
     rt: &R,
     alloc: Global,
     example: Example,
@@ -30,7 +32,7 @@ fn differences<R: Threads + Sync>(
 }
 
 // Runs an example once for each call of a stream, which fails in that run, and once with a call that fails after the last.
-fn check_each<R: Threads + Sync>(
+fn check_each<R: Threads + Wait + Sync>(
     rt: &R,
     alloc: Global,
     text: &str,
@@ -85,7 +87,7 @@ impl Example {
 }
 
 // What an example's run prints, and what is wanted.
-fn ran<R: Threads + Sync>(
+fn ran<R: Threads + Wait + Sync>(
     rt: &R,
     alloc: Global,
     example: Example,
@@ -115,6 +117,7 @@ fn ran<R: Threads + Sync>(
         &mut clock,
         &mut out,
         &mut err,
+        &OpenGate,
     );
     let got = Printed {
         status: status.code(),
@@ -125,7 +128,15 @@ fn ran<R: Threads + Sync>(
 }
 
 // The status of a run of the top call, over any objects. What its contract says is no concern of the caller's.
-fn status_of<R: Threads + Sync, T: Tree, S: Source, C: Clock, K: Sink, E: Sink>(
+fn status_of<
+    R: Threads + Wait + Sync,
+    T: Tree,
+    S: Source,
+    C: Clock,
+    K: Sink,
+    E: Sink,
+    G: Gate + Sync,
+>(
     rt: &R,
     alloc: Global,
     words: &[String],
@@ -134,6 +145,7 @@ fn status_of<R: Threads + Sync, T: Tree, S: Source, C: Clock, K: Sink, E: Sink>(
     clock: &mut C,
     out: &mut K,
     err: &mut E,
+    gate: &G,
 ) -> Status {
-    run(rt, alloc, words, tree, source, clock, out, err).status
+    run(rt, alloc, words, tree, source, clock, out, err, gate).status
 }

@@ -6,21 +6,21 @@ use Rattle.md_tool.proofs.Ending.{ok_then, ends_of, ends_words, complete_words, 
 use Rattle.md_tool.proofs.running.run_words.Goals as goal
 
 pub returns-in-Ok-clause-ends : goal.returns-in-Ok-clause-ends
-returns-in-Ok-clause-ends g c = ends_words (texts c.args.words.now) _ _ _ _ c.in-Ok.command c.in-Ok.ensures.ok _ c.run_command.ensures.ends
+returns-in-Ok-clause-ends g c = ends_words (texts c.args.words.now) _ _ _ _ c.in-Ok.command c.in-Ok.ensures.ok _ c.run_either.ensures.ends
 
 pub returns-in-Ok-clause-complete : goal.returns-in-Ok-clause-complete
 returns-in-Ok-clause-complete g c =
     let old = inputs (g.T.Tree.content c.args.tree.now) (g.T.Tree.faults c.args.tree.now) (g.S.Source.left c.args.script.now) (g.S.Source.faults c.args.script.now) (g.C.Clock.moment c.args.clock.now) (g.C.Clock.faults c.args.clock.now) in
-    let new = inputs (g.T.Tree.content c.run_command.new.tree) (g.T.Tree.faults c.run_command.new.tree) (g.S.Source.left c.run_command.new.script) (g.S.Source.faults c.run_command.new.script) (g.C.Clock.moment c.run_command.new.clock) (g.C.Clock.faults c.run_command.new.clock) in
+    let new = inputs (g.T.Tree.content c.run_either.new.tree) (g.T.Tree.faults c.run_either.new.tree) (g.S.Source.left c.run_either.new.script) (g.S.Source.faults c.run_either.new.script) (g.C.Clock.moment c.run_either.new.clock) (g.C.Clock.faults c.run_either.new.clock) in
     let before = outputs (g.E.Sink.taken c.args.err.now) (g.E.Sink.faults c.args.err.now) (g.K.Sink.taken c.args.out.now) (g.K.Sink.faults c.args.out.now) in
-    let after = outputs (g.E.Sink.taken c.run_command.new.err) (g.E.Sink.faults c.run_command.new.err) (g.K.Sink.taken c.run_command.new.out) (g.K.Sink.faults c.run_command.new.out) in
-    complete_words (texts c.args.words.now) old new before after c.run_command.result.status c.in-Ok.command c.in-Ok.ensures.ok c.run_command.ensures.complete
+    let after = outputs (g.E.Sink.taken c.run_either.new.err) (g.E.Sink.faults c.run_either.new.err) (g.K.Sink.taken c.run_either.new.out) (g.K.Sink.faults c.run_either.new.out) in
+    complete_words (texts c.args.words.now) old new before after c.run_either.result.status c.in-Ok.command c.in-Ok.ensures.ok c.run_either.ensures.complete
 
 pub returns-in-Ok-clause-leaves : goal.returns-in-Ok-clause-leaves
-returns-in-Ok-clause-leaves g c = leaves_words (texts c.args.words.now) _ _ c.in-Ok.command c.in-Ok.ensures.ok c.run_command.ensures.leaves
+returns-in-Ok-clause-leaves g c = leaves_words (texts c.args.words.now) _ _ c.in-Ok.command c.in-Ok.ensures.ok c.run_either.ensures.leaves
 
 pub returns-in-Ok-clause-so_far : goal.returns-in-Ok-clause-so_far
-returns-in-Ok-clause-so_far g c = so_far_words (texts c.args.words.now) _ _ c.in-Ok.command c.in-Ok.ensures.ok c.run_command.ensures.so_far
+returns-in-Ok-clause-so_far g c = so_far_words (texts c.args.words.now) _ _ c.in-Ok.command c.in-Ok.ensures.ok c.run_either.ensures.so_far
 
 pub returns-in-Err-Usage-clause-so_far : goal.returns-in-Err-Usage-clause-so_far
 returns-in-Err-Usage-clause-so_far g c = λ command known. so_far_same command.offset command.what _
