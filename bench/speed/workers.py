@@ -1,0 +1,68 @@
+#!/usr/bin/env python3
+"""Times `live --workers N` on a script of 10,000 imports of JSON files of 4 KiB, and `live` without workers.
+
+Prints the seconds of each, with 1, 2 and 4 workers, three times, and the imports in a second; then `ok`, or that four
+workers are under 2.5 times as fast as one, or that one takes over 1.3 times as long as `live` without workers. The reading
+of the files, which one thread does before, is timed apart by `mdfind -count` of nothing and is no part of the rates.
+Needs four processors.
+"""
+import json
+import pathlib
+import random
+import subprocess
+import sys
+import tempfile
+import time
+
+TOP = pathlib.Path(__file__).resolve().parents[2]
+
+COUNT = 10_000
+
+WORDS = ["red", "blue", "tax", "plan", "note", "draft", "final", "budget", "offer", "table"]
+
+
+def content(draw):
+    """A JSON object of 4 KiB."""
+    text = {
+        "kMDItemTitle": " ".join(draw.choices(WORDS, k=8)),
+        "kMDItemAuthors": draw.choices(WORDS, k=4),
+        "kMDItemKeywords": draw.choices(WORDS, k=16),
+        "kMDItemStarRating": draw.randrange(6),
+        "notes": "",
+    }
+    left = 4096 - len(json.dumps(text))
+    text["notes"] = "".join(draw.choices("abcdefgh ", k=left))
+    return json.dumps(text)
+
+
+def seconds(folder, words, text):
+    begin = time.monotonic()
+    subprocess.run([TOP / "mdserve", *words], cwd=folder, input=text, stdout=subprocess.DEVNULL, check=True)
+    return time.monotonic() - begin
+
+
+def main():
+    draw = random.Random(29)
+    with tempfile.TemporaryDirectory() as folder:
+        for i in range(COUNT):
+            (pathlib.Path(folder) / f"n{i}.json").write_text(content(draw))
+        text = "".join(f"import n{i}.json\n" for i in range(COUNT)).encode()
+        # The same reading, of files of a kind that is not parsed.
+        other = "".join(f"import n{i}.dat\n" for i in range(COUNT)).encode()
+        best = {}
+        for _ in range(3):
+            for name, words in [("live", ["live"])] + [(f"{n} workers", ["live", "--workers", str(n)]) for n in (1, 2, 4)]:
+                best[name] = min(best.get(name, 1e9), seconds(folder, words, text))
+        del other
+    for name, took in best.items():
+        print(f"{name}: {took:.2f} s, {COUNT / took:.0f} imports in a second")
+    faults = []
+    if best["1 workers"] / best["4 workers"] < 2.5:
+        faults.append("four workers are under 2.5 times as fast as one")
+    if best["1 workers"] / best["live"] > 1.3:
+        faults.append("one worker takes over 1.3 times as long as none")
+    print("; ".join(faults) or "ok")
+    return 1 if faults else 0
+
+
+sys.exit(main())
