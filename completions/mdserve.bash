@@ -65,6 +65,7 @@ _mdserve() {
         mdfind) _mdfind ;;
         mdls) _mdls ;;
         mdimport) _mdimport ;;
+        live) __mdserve_words --workers ;;
     esac
 }
 

@@ -29,3 +29,4 @@ complete -c mdimport -o A -d 'List the attributes'
 
 complete -c mdserve -n __fish_use_subcommand -o offset -x -a Z -d 'How far local time is ahead of UTC'
 complete -c mdserve -n __fish_use_subcommand -f -a 'mdfind mdls mdimport live gen'
+complete -c mdserve -n '__fish_seen_subcommand_from live' -f -l workers -x -d 'Run the jobs by so many workers'

@@ -3,7 +3,7 @@
 
 Prints the seconds of each, with 1, 2 and 4 workers, three times, and the imports in a second; then `ok`, or that four
 workers are under 2.5 times as fast as one, or that one takes over 1.3 times as long as `live` without workers. The reading
-of the files, which one thread does before, is timed apart by `mdfind -count` of nothing and is no part of the rates.
+of the files, which one thread does before, is timed apart, by a reading of all of them in this script, and is taken off.
 Needs four processors.
 """
 import json
@@ -41,19 +41,30 @@ def seconds(folder, words, text):
     return time.monotonic() - begin
 
 
+def reading(folder):
+    """The seconds of reading all files, the least of three times."""
+    took = []
+    for _ in range(3):
+        begin = time.monotonic()
+        for i in range(COUNT):
+            (pathlib.Path(folder) / f"n{i}.json").read_bytes()
+        took.append(time.monotonic() - begin)
+    return min(took)
+
+
 def main():
     draw = random.Random(29)
     with tempfile.TemporaryDirectory() as folder:
         for i in range(COUNT):
             (pathlib.Path(folder) / f"n{i}.json").write_text(content(draw))
         text = "".join(f"import n{i}.json\n" for i in range(COUNT)).encode()
-        # The same reading, of files of a kind that is not parsed.
-        other = "".join(f"import n{i}.dat\n" for i in range(COUNT)).encode()
         best = {}
+        read = reading(folder)
         for _ in range(3):
             for name, words in [("live", ["live"])] + [(f"{n} workers", ["live", "--workers", str(n)]) for n in (1, 2, 4)]:
                 best[name] = min(best.get(name, 1e9), seconds(folder, words, text))
-        del other
+    print(f"reading: {read:.2f} s")
+    best = {name: took - read for name, took in best.items()}
     for name, took in best.items():
         print(f"{name}: {took:.2f} s, {COUNT / took:.0f} imports in a second")
     faults = []
