@@ -1,6 +1,8 @@
 -- The run of a script by workers, from what was read and run.
-use Rattle.std.proofs.Common.{◌≡◌, ℕ, ℤ, List, [], ◌∷◌, map, codes, refl, sym, ◌∙◌, ap, subst, Result, Ok, Err, Option, Some, None, IfOk, IsErr}
+use Rattle.std.proofs.Common.{◌≡◌, ℕ, ◌<◌, ◌≤◌, ◌&&◌, true, ℤ, List, [], ◌∷◌, map, codes, refl, sym, ◌∙◌, ap, subst, Result, Ok, Err, Option, Some, None, IfOk, IsErr}
+use Rattle.std.specs.Prelude.{nat_lt, nat_le}
 use Rattle.std.specs.List.{filter_map, cons_option}
+use Rattle.std.proofs.lemmas.Bool.{and_parts, ltb-true, leb-true}
 use Rattle.md_files.specs.Findings.{Finding}
 use Rattle.md_files.specs.Reports.{FileReport, report_of}
 use Rattle.md_jobs.specs.Reading.{job_action}
@@ -19,7 +21,7 @@ use Rattle.md_script.specs.declared.script.Line.{Line}
 use Rattle.md_script.specs.declared.script.ScriptError.{ScriptError}
 use Rattle.md_script.specs.Scripts.{verdict}
 use Rattle.md_turn.specs.declared.journal.JournalEntry.{JournalEntry}
-use Rattle.md_words.specs.Grammar.{workers_of}
+use Rattle.md_words.specs.Grammar.{is_offered, workers_of}
 use Rattle.md_words.specs.declared.command.Command.{Command}
 use Rattle.md_words.specs.declared.command.Tool.{Tool}
 use Rattle.md_words.specs.declared.command.Tool.TheVariants as tool
@@ -133,6 +135,13 @@ is_workers (tool.Import files) workers e = cc
 is_workers tool.Importers workers e = cc
 is_workers tool.Attributes workers e = cc
 is_workers (tool.Gen start count) workers e = cc
+
+-- so many workers are at least one, and at most 64
+pub few_workers : (what : Tool) (workers : ℕ) → workers_of what ≡ Some workers → is_offered what ≡ true → (0 < workers) × (workers ≤ 64)
+few_workers what workers e offered =
+    let test : (nat_lt 0 workers && nat_le workers 64) ≡ true = subst (λ w. is_offered w ≡ true) (is_workers what workers e) offered in
+    let parts = and_parts (nat_lt 0 workers) (nat_le workers 64) test in
+    (ltb-true 0 workers parts.0, leb-true workers 64 parts.1)
 
 pub so_far_by : (offset : ℤ) (what : Tool) (workers : ℕ) → workers_of what ≡ Some workers → (old new : Inputs) → LivesSoFar offset old new → AsksSoFar offset what old new
 so_far_by offset what workers e old new h = subst (λ w. AsksSoFar offset w old new) (sym (is_workers what workers e)) h

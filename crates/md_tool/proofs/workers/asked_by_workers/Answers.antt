@@ -1,5 +1,8 @@
-use Rattle.md_tool.proofs.ByWorkers.{so_far_by, leaves_by, tells_by}
+use Rattle.md_tool.proofs.ByWorkers.{few_workers, so_far_by, leaves_by, tells_by}
 use Rattle.md_tool.proofs.workers.asked_by_workers.Goals as goal
+
+pub live_by_workers-requires-clause-workers : goal.live_by_workers-requires-clause-workers
+live_by_workers-requires-clause-workers g c κs bounds = few_workers c.args.command.now.what c.args.workers c.requires.workers c.requires.offered
 
 pub returns-in-Ok-clause-tells : goal.returns-in-Ok-clause-tells
 returns-in-Ok-clause-tells g c = tells_by c.args.command.now.offset c.args.command.now.what c.args.workers c.requires.workers _ _ _ c.in-Ok.ensures.tells
