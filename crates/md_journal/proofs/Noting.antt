@@ -13,7 +13,7 @@ use Rattle.md_jobs.specs.declared.source.ScriptJob.{ScriptJob}
 use Rattle.md_journal.specs.Given.{noted_if, with_job, with_jobs}
 use Rattle.md_journal.specs.Printing.{findings_of}
 
-abbrev made : End → List ℕ → List ℕ → FileReport
+abbrev pub made : End → List ℕ → List ℕ → FileReport
 made end out err = record { end = end; out = out; err = err }
 
 -- a report with findings

@@ -84,7 +84,7 @@ fn push_query(
 fn client_of(key: u64) -> u8
     ensures { result ≡ client_of key }
 {
-    (key / KEYS_OF_CLIENT) as u8
+    (key / KEYS_OF_CLIENT % 256) as u8
 }
 
 // The number of a key.
