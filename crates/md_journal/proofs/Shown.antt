@@ -1,6 +1,6 @@
 -- What a live query has given is what its client holds by the journal.
 use Rattle.std.proofs.Common.{◌≡◌, ℕ, true, List, [], ◌∷◌, ◌++◌, map, refl, sym, ◌∙◌, ap, subst, Some, None, Result, Ok, Err}
-use Rattle.std.specs.Prelude.{OnOk}
+use Rattle.std.specs.Prelude.{OnOk, is_ok, if◌then◌else◌}
 use Rattle.std.specs.List.{zip, flat_map}
 use Rattle.std.specs.Option.{option_map}
 use Rattle.md_world.specs.Tables.{IsTable}
@@ -25,9 +25,10 @@ use Rattle.md_journal.specs.Keys.{client_of, number_of}
 use Rattle.md_journal.specs.Printing.{entries_in, live_text, key_text}
 use Rattle.md_journal.specs.Given.{given_text, key_given}
 
-pub on_ok : {A E : Type 0} (P Q : Type 0) → (P → Q) → (r : Result A E) → OnOk r P → OnOk r Q
-on_ok P Q f (Ok x) h = f h
-on_ok P Q f (Err e) h = h
+-- a text that is there where a call ends well
+pub when_ok : {A E : Type 0} (text made old wanted : List ℕ) (r : Result A E) → text ≡ (if is_ok r then made else old) → made ≡ wanted → OnOk r (text ≡ wanted)
+when_ok text made old wanted (Ok x) is same = is ∙ same
+when_ok text made old wanted (Err e) is same = tt
 
 -- a follower that took the hits given, which are a table, holds them in order
 pub takes_so : (given : Held) (old new : Followed) → IsTable given.rows → old ≡ follower_of given.order given.version → new ≡ with_part old (record { hits = given.rows; last = true })
