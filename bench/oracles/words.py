@@ -84,9 +84,11 @@ def imported(words):
 
 
 def live(words):
-    if words:
+    if not words:
+        return "live"
+    if len(words) != 2 or words[0] != "--workers" or not re.fullmatch("[0-9]+", words[1]) or not 1 <= int(words[1]) <= 64:
         raise Usage
-    return "live"
+    return f"live by {int(words[1])}"
 
 
 def gen(words):
@@ -160,9 +162,23 @@ def drawn_words(draw):
     return words
 
 
+COUNTS = ["1", "2", "7", "64", "064", "0", "65", "4294967297", "+1", "-1", "1.0", "\u0661", "", "a"]
+
+
+def worker_rows():
+    """Words of `live`, most of which ask for workers."""
+    draw = random.Random(29)
+    for _ in range(100):
+        words = ["-offset", draw.choice(OFFSETS[:5])] if draw.randrange(6) == 0 else []
+        words += ["live", *(["--workers"] if draw.randrange(20) else [draw.choice(["-workers", "--worker", "--"])])]
+        words += [draw.choice(COUNTS[:5] if draw.randrange(3) else COUNTS) for _ in range(draw.choice([1, 1, 1, 1, 0, 2]))]
+        yield words
+
+
 def word_rows():
     draw = random.Random(13)
     drawn = {tuple(drawn_words(draw)): None for _ in range(1500)}
+    drawn |= {tuple(words): None for words in worker_rows()}
     for words in map(list, drawn):
         yield " ".join(word or "_" for word in words), answer(words)
 
