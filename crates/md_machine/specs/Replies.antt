@@ -10,7 +10,7 @@ delivers (reply.Finished part base) = true
 delivers (reply.Notice notice) = true
 delivers _ = false
 
--- whether a reply is made with memory: it hands out a ticket, rows or a version, or tells how many items differ
+-- whether a reply is made with memory: it hands out a ticket, rows or a version
 abbrev pub takes_memory : Reply → Bool
 takes_memory (reply.Ticket ticket) = true
 takes_memory (reply.Committed version) = true
@@ -18,5 +18,4 @@ takes_memory (reply.Created version) = true
 takes_memory (reply.Progress part) = true
 takes_memory (reply.Finished part base) = true
 takes_memory (reply.Notice notice) = true
-takes_memory (reply.NotYet items) = true
 takes_memory _ = false

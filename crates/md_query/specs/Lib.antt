@@ -2,3 +2,4 @@ pub mod Rows
 pub mod Standings
 pub mod Asked
 pub mod Reads
+pub mod Differing

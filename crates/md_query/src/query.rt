@@ -1,5 +1,5 @@
 // One query: what it answers when it is asked, and what that makes of it.
-ghost use Rattle.std.specs.Prelude.{◌≡◌, ℕ, List, ◌≤◌, ◌<◌, ◌+◌, ◌^◌, IfOk, OnErr, true, false, take, drop, map, length};
+ghost use Rattle.std.specs.Prelude.{◌≡◌, ℕ, List, ◌≤◌, ◌<◌, ◌+◌, ◌^◌, IfOk, OnErr, true, false, take, drop, map, length, is_some};
 ghost use Rattle.md_machine.specs.Answers.{answer, shown_answer, diff, notice_of, condition_of};
 ghost use Rattle.md_machine.specs.Laws.{hits_given};
 ghost use Rattle.md_machine.specs.Replies.{takes_memory};
@@ -10,7 +10,8 @@ ghost use Rattle.md_world.specs.Differences.{items_of};
 ghost use Rattle.md_query.specs.Rows.{rows_of};
 ghost use Rattle.md_query.specs.Standings.{query_of, nameless, is_finished};
 ghost use Rattle.md_store.specs.Places.{Place, table_at};
-ghost use Rattle.md_store.specs.Stores.{is_shown};
+ghost use Rattle.md_store.specs.Stores.{is_shown, IsReady};
+ghost use Rattle.md_query.specs.Differing.{IsPendingOf, touch_by};
 ghost use Rattle.md_query.specs.Asked.{newest_of, answered, settled};
 ghost use Rattle.md_query.specs.Reads.{most_reads};
 
@@ -19,7 +20,8 @@ use crate::reading::read;
 use crate::tables;
 use md_machine::{Reply, Spec};
 use md_match::Filter;
-use md_store::Store;
+use md_store::{Ready, Store};
+use md_touch::{Pending, Touch};
 use md_value::Items;
 use md_world::{Limits, Order, Row, Rows, Steps};
 use std::alloc::{AllocError, Global};
@@ -228,7 +230,7 @@ impl Query {
         ensures reply { IfOk result (λ a. a.0 ≡ (gather (nameless store.now.places self.now) now_ms).reply) }
         ensures query { IfOk result (λ a. nameless store.now.places (settled self.now a.1) ≡ (gather (nameless store.now.places self.now) now_ms).query) }
         ensures memory { OnErr result (takes_memory (gather (nameless store.now.places self.now) now_ms).reply ≡ true) }
-        ensures reads { (newest : List Row) → steps.new ≤ steps.old + most_reads newest (table_at store.now.places self.now.base) (gather (nameless store.now.places self.now) now_ms).reply }
+        ensures reads { steps.new ≤ steps.old + most_reads (table_at store.now.places self.now.base) (gather (nameless store.now.places self.now) now_ms).reply }
     {
         match self.phase {
             Progressed::Finished => Ok((Reply::AlreadyFinished(self.base), Effect::Keep)),
@@ -254,66 +256,47 @@ impl Query {
         }
     }
 
-    // The hits of its base, and those of the newest version.
-    fn both_hits<'a, L: Ledger>(
+    // The notice of its pending difference.
+    fn deliver<L: Ledger>(
         &self,
-        alloc: Global,
-        store: &'a Store,
-        steps: &mut Steps<L>,
-    ) -> Result<(Vec<&'a Row>, Vec<&'a Row>), AllocError>
-        requires { is_shown store.now self.now.base ≡ true }
-        ensures old { IfOk result (λ hits. rows_of hits.0.items ≡ answer self.now.spec (table_at store.now.places self.now.base)) }
-        ensures new { IfOk result (λ hits. rows_of hits.1.items ≡ answer self.now.spec (table_at store.now.places store.now.version)) }
-        ensures reads { steps.new ≤ steps.old + (length (table_at store.now.places self.now.base) + length (table_at store.now.places store.now.version)) }
-    {
-        let old = self.hits(alloc, store, self.base, steps)?;
-        let new = self.hits(alloc, store, store.version(), steps)?;
-        Ok((old, new))
-    }
-
-    // The notice of what differs between its base's hits and the newest version's.
-    fn deliver(
-        &self,
-        alloc: Global,
         now_ms: u64,
         store: &Store,
-        old: &[&Row],
-        new: &[&Row],
+        pending: &Pending,
+        steps: &mut Steps<L>,
     ) -> Result<Answer, AllocError>
-        requires old { rows_of old.now ≡ answer self.now.spec (table_at store.now.places self.now.base) }
-        requires new { rows_of new.now ≡ answer self.now.spec (table_at store.now.places store.now.version) }
+        requires { IsPendingOf store.now self.now pending.now.kinds }
         ensures reply { IfOk result (λ a. a.0 ≡ Reply.Notice (notice_of (diff self.now.spec (table_at store.now.places self.now.base) (table_at store.now.places store.now.version)) self.now.base store.now.version)) }
         ensures query { IfOk result (λ a. nameless store.now.places (settled self.now a.1) ≡ record (nameless store.now.places self.now) { base = store.now.version; rows = table_at store.now.places store.now.version; disables = 0; delivered = now_ms }) }
+        ensures reads { steps.new ≤ steps.old + most_reads (table_at store.now.places self.now.base) (Reply.Notice (notice_of (diff self.now.spec (table_at store.now.places self.now.base) (table_at store.now.places store.now.version)) self.now.base store.now.version)) }
     {
         let version = store.version();
-        let notice = tables::notice(alloc, old, new, self.base, version)?;
+        let notice = pending.notice(self.base, version, store, steps)?;
         Ok((Reply::Notice(notice), Effect::Deliver(version, now_ms)))
     }
 
-    // How many items differ between its base's hits and the newest version's.
-    fn count_pending(&self, store: &Store, old: &[&Row], new: &[&Row]) -> u32
-        requires old { rows_of old.now ≡ answer self.now.spec (table_at store.now.places self.now.base) }
-        requires new { rows_of new.now ≡ answer self.now.spec (table_at store.now.places store.now.version) }
+    // How many items are pending.
+    fn count_pending(&self, store: &Store, pending: &Pending) -> u32
+        requires pending { IsPendingOf store.now self.now pending.now.kinds }
         requires few { items_of (diff self.now.spec (table_at store.now.places self.now.base) (table_at store.now.places store.now.version)) ≤ store.now.version }
         ensures { result ≡ items_of (diff self.now.spec (table_at store.now.places self.now.base) (table_at store.now.places store.now.version)) }
     {
         let _most = store.version();
-        tables::count_items(old, new) as u32
+        pending.len() as u32
     }
 
     fn enable<L: Ledger>(
         &self,
-        alloc: Global,
         now_ms: u64,
         limits: &Limits,
         store: &Store,
+        pending: &Pending,
         steps: &mut Steps<L>,
     ) -> Result<Answer, AllocError>
-        requires { is_shown store.now self.now.base ≡ true }
+        requires { IsPendingOf store.now self.now pending.now.kinds }
         ensures reply { IfOk result (λ a. a.0 ≡ (enable (newest_of limits.now store.now) (nameless store.now.places self.now) now_ms).reply) }
         ensures query { IfOk result (λ a. nameless store.now.places (settled self.now a.1) ≡ (enable (newest_of limits.now store.now) (nameless store.now.places self.now) now_ms).query) }
         ensures memory { OnErr result (takes_memory (enable (newest_of limits.now store.now) (nameless store.now.places self.now) now_ms).reply ≡ true) }
-        ensures reads { steps.new ≤ steps.old + most_reads (table_at store.now.places store.now.version) (table_at store.now.places self.now.base) (enable (newest_of limits.now store.now) (nameless store.now.places self.now) now_ms).reply }
+        ensures reads { steps.new ≤ steps.old + most_reads (table_at store.now.places self.now.base) (enable (newest_of limits.now store.now) (nameless store.now.places self.now) now_ms).reply }
     {
         if self.disables == 0 {
             return Ok((Reply::NotDisabled, Effect::Keep));
@@ -325,55 +308,53 @@ impl Query {
         match self.phase {
             Progressed::Gathering(_) => Ok((Reply::Resumed, Effect::Count(0))),
             Progressed::Finished => {
-                let (old, new) = self.both_hits(alloc, store, steps)?;
-                self.deliver(alloc, now_ms, store, &old, &new)
+                self.deliver(now_ms, store, pending, steps)
             }
         }
     }
 
     fn poll_finished<L: Ledger>(
         &self,
-        alloc: Global,
         now_ms: u64,
         limits: &Limits,
         store: &Store,
+        pending: &Pending,
         steps: &mut Steps<L>,
     ) -> Result<Answer, AllocError>
         requires finished { self.now.phase ≡ Finished }
         requires not_held { self.now.disables ≡ 0 }
-        requires shown { is_shown store.now self.now.base ≡ true }
+        requires pending { IsPendingOf store.now self.now pending.now.kinds }
         requires few { items_of (diff self.now.spec (table_at store.now.places self.now.base) (table_at store.now.places store.now.version)) ≤ store.now.version }
         ensures reply { IfOk result (λ a. a.0 ≡ (poll (newest_of limits.now store.now) (nameless store.now.places self.now) now_ms).reply) }
         ensures query { IfOk result (λ a. nameless store.now.places (settled self.now a.1) ≡ (poll (newest_of limits.now store.now) (nameless store.now.places self.now) now_ms).query) }
         ensures memory { OnErr result (takes_memory (poll (newest_of limits.now store.now) (nameless store.now.places self.now) now_ms).reply ≡ true) }
-        ensures reads { steps.new ≤ steps.old + most_reads (table_at store.now.places store.now.version) (table_at store.now.places self.now.base) (poll (newest_of limits.now store.now) (nameless store.now.places self.now) now_ms).reply }
+        ensures reads { steps.new ≤ steps.old + most_reads (table_at store.now.places self.now.base) (poll (newest_of limits.now store.now) (nameless store.now.places self.now) now_ms).reply }
     {
-        let (old, new) = self.both_hits(alloc, store, steps)?;
-        let items = self.count_pending(store, &old, &new);
+        let items = self.count_pending(store, pending);
         if asking::is_due(
             &self.spec.batch,
             items as usize,
             now_ms.saturating_sub(self.delivered),
         ) {
-            return self.deliver(alloc, now_ms, store, &old, &new);
+            return self.deliver(now_ms, store, pending, steps);
         }
         Ok((Reply::NotYet(items), Effect::Keep))
     }
 
     fn poll<L: Ledger>(
         &self,
-        alloc: Global,
         now_ms: u64,
         limits: &Limits,
         store: &Store,
+        pending: &Pending,
         steps: &mut Steps<L>,
     ) -> Result<Answer, AllocError>
-        requires shown { is_shown store.now self.now.base ≡ true }
+        requires pending { IsPendingOf store.now self.now pending.now.kinds }
         requires few { items_of (diff self.now.spec (table_at store.now.places self.now.base) (table_at store.now.places store.now.version)) ≤ store.now.version }
         ensures reply { IfOk result (λ a. a.0 ≡ (poll (newest_of limits.now store.now) (nameless store.now.places self.now) now_ms).reply) }
         ensures query { IfOk result (λ a. nameless store.now.places (settled self.now a.1) ≡ (poll (newest_of limits.now store.now) (nameless store.now.places self.now) now_ms).query) }
         ensures memory { OnErr result (takes_memory (poll (newest_of limits.now store.now) (nameless store.now.places self.now) now_ms).reply ≡ true) }
-        ensures reads { steps.new ≤ steps.old + most_reads (table_at store.now.places store.now.version) (table_at store.now.places self.now.base) (poll (newest_of limits.now store.now) (nameless store.now.places self.now) now_ms).reply }
+        ensures reads { steps.new ≤ steps.old + most_reads (table_at store.now.places self.now.base) (poll (newest_of limits.now store.now) (nameless store.now.places self.now) now_ms).reply }
     {
         match self.phase {
             Progressed::Gathering(_) => Ok((Reply::NotFinished, Effect::Keep)),
@@ -381,7 +362,7 @@ impl Query {
                 if self.disables > 0 {
                     Ok((Reply::Held(self.disables), Effect::Keep))
                 } else {
-                    self.poll_finished(alloc, now_ms, limits, store, steps)
+                    self.poll_finished(now_ms, limits, store, pending, steps)
                 }
             }
         }
@@ -395,20 +376,22 @@ impl Query {
         now_ms: u64,
         limits: &Limits,
         store: &Store,
+        pending: &Pending,
         steps: &mut Steps<L>,
     ) -> Result<Answer, AllocError>
         requires shown { is_shown store.now self.now.base ≡ true }
+        requires pending { IsPendingOf store.now self.now pending.now.kinds }
         requires few { items_of (diff self.now.spec (table_at store.now.places self.now.base) (table_at store.now.places store.now.version)) ≤ store.now.version }
         ensures reply { IfOk result (λ a. a.0 ≡ (answered (newest_of limits.now store.now) ask now_ms (nameless store.now.places self.now)).reply) }
         ensures query { IfOk result (λ a. nameless store.now.places (settled self.now a.1) ≡ (answered (newest_of limits.now store.now) ask now_ms (nameless store.now.places self.now)).query) }
         ensures memory { OnErr result (takes_memory (answered (newest_of limits.now store.now) ask now_ms (nameless store.now.places self.now)).reply ≡ true) }
-        ensures reads { steps.new ≤ steps.old + most_reads (table_at store.now.places store.now.version) (table_at store.now.places self.now.base) (answered (newest_of limits.now store.now) ask now_ms (nameless store.now.places self.now)).reply }
+        ensures reads { steps.new ≤ steps.old + most_reads (table_at store.now.places self.now.base) (answered (newest_of limits.now store.now) ask now_ms (nameless store.now.places self.now)).reply }
     {
         match ask {
             Ask::Gather => self.gather(alloc, now_ms, store, steps),
             Ask::Disable => Ok(self.disable(limits)),
-            Ask::Enable => self.enable(alloc, now_ms, limits, store, steps),
-            Ask::Poll => self.poll(alloc, now_ms, limits, store, steps),
+            Ask::Enable => self.enable(now_ms, limits, store, pending, steps),
+            Ask::Poll => self.poll(now_ms, limits, store, pending, steps),
         }
     }
 
@@ -422,10 +405,12 @@ impl Query {
         newest: u32,
         limits: &Limits,
         store: &Store,
+        pending: &Pending,
         steps: &mut Steps<L>,
     ) -> Result<(Reply, Effect), AllocError>
         requires newest { newest ≡ store.now.version }
         requires shown { is_shown store.now self.now.base ≡ true }
+        requires pending { IsPendingOf store.now self.now pending.now.kinds }
         // There are no fewer versions than items that differ from the base.
         requires few { items_of (diff self.now.spec (table_at store.now.places self.now.base) (table_at store.now.places store.now.version)) ≤ store.now.version }
         // The reply is the machine's, whatever the query's client and number.
@@ -435,9 +420,29 @@ impl Query {
         // Memory runs out at a reply that takes some.
         ensures memory { OnErr result ((client number : ℕ) → takes_memory (answered (newest_of limits.now store.now) ask now_ms (query_of store.now.places client number self.now)).reply ≡ true) }
         // A reply reads no more rows than its making takes, also where memory runs out.
-        ensures reads { (client number : ℕ) → steps.new ≤ steps.old + most_reads (table_at store.now.places newest) (table_at store.now.places self.now.base) (answered (newest_of limits.now store.now) ask now_ms (query_of store.now.places client number self.now)).reply }
+        ensures reads { (client number : ℕ) → steps.new ≤ steps.old + most_reads (table_at store.now.places self.now.base) (answered (newest_of limits.now store.now) ask now_ms (query_of store.now.places client number self.now)).reply }
     {
-        self.answer(alloc, ask, now_ms, limits, store, steps)
+        self.answer(alloc, ask, now_ms, limits, store, pending, steps)
+    }
+
+    /// The change of its pending difference by a commit that is ready. Takes all the memory of the change; reads the row that
+    /// its base has of the commit's path, if the path is stamped. Fails only where memory runs out.
+    pub fn touch<L: Ledger>(
+        &self,
+        store: &Store,
+        ready: &Ready,
+        pending: &mut Pending,
+        steps: &mut Steps<L>,
+    ) -> Result<Touch, AllocError>
+        requires shown { is_shown store.now self.now.base ≡ true }
+        requires ready { IsReady store.now ready.now }
+        ensures touch { IfOk result (λ t. t ≡ touch_by store.now self.now ready.now) }
+        ensures ready { IfOk result (λ t. pending.new ≡ record pending.old { room = is_some t.kind }) }
+        ensures err { OnErr result (pending.new ≡ pending.old) }
+        ensures reads { steps.new ≤ steps.old + 1 }
+    {
+        let base = store.row_under(self.base, ready, steps);
+        pending.ready(ready.place(), base, ready.row(), &self.filter)
     }
 
     /// Takes an answer's effect over. Cannot fail.

@@ -137,6 +137,13 @@ impl Ready {
         self.row.as_ref()
     }
 
+    /// Whether the path is not stamped yet.
+    pub(crate) fn is_new(&self) -> bool
+        ensures { result ≡ self.now.is_new }
+    {
+        self.is_new
+    }
+
     /// The ticket.
     pub(crate) fn ticket(&self) -> u32
         ensures { result ≡ self.now.ticket }

@@ -225,6 +225,25 @@ impl Store {
         seen_in(&self.slots[place as usize].chain, version)
     }
 
+    /// The row that a version's table has at the path of a commit that is ready: the newest version's, or a pinned one's.
+    /// Reads no row of a path that is not stamped yet.
+    pub fn row_under<'a, L: Ledger>(
+        &'a self,
+        version: u32,
+        ready: &Ready,
+        steps: &mut Steps<L>,
+    ) -> Option<&'a Row>
+        requires version { is_shown self.now version ≡ true }
+        requires ready { IsReady self.now ready.now }
+        ensures row { option_copied result ≡ at (table_at self.now.places version) ready.now.path }
+        ensures reads { steps.new ≤ steps.old + 1 }
+    {
+        if ready.is_new() {
+            return None;
+        }
+        self.row_at(version, ready.place(), steps)
+    }
+
     /// The place of a stamped path. Places are numbered in the order of first stamping.
     pub fn place_of(&self, path: &Path) -> Option<u32>
         ensures { result ≡ place_in self.now.places path.now }

@@ -20,7 +20,7 @@ use Rattle.md_store.proofs.Placing.{same_sym}
 use Rattle.md_touch.specs.declared.kind.Kind.{Kind}
 use Rattle.md_touch.specs.declared.kind.Kind.TheVariants.{Added, Changed, Removed}
 use Rattle.md_touch.specs.Kinds.{kind_at, kind_in, is_kind, kept, kind_by_rows, kind_for}
-use Rattle.md_touch.specs.Listed.{places_of}
+use Rattle.md_touch.specs.Listed.{places_of, reads_of}
 use Rattle.md_touch.specs.Pendings.{answers_differ, IsPending}
 use Rattle.md_touch.proofs.Following.{path_of_place}
 
@@ -169,26 +169,38 @@ all_counted ((i, Added) ∷ kinds) = let rest = all_counted kinds in omega arith
 all_counted ((i, Changed) ∷ kinds) = let rest = all_counted kinds in omega arith
 all_counted ((i, Removed) ∷ kinds) = let rest = all_counted kinds in omega arith
 
-own_from : (places : List Place) (all kinds : List (ℕ × Kind)) → ((k : ℕ) → is_some (kind_at all k) ≡ true → place_in places (path_at places k) ≡ Some k) → ((k : ℕ) → is_some (kind_at kinds k) ≡ true → is_some (kind_at all k) ≡ true) → AreOwn places kinds
+pub own_from : (places : List Place) (all kinds : List (ℕ × Kind)) → ((k : ℕ) → is_some (kind_at all k) ≡ true → place_in places (path_at places k) ≡ Some k) → ((k : ℕ) → is_some (kind_at kinds k) ≡ true → is_some (kind_at all k) ≡ true) → AreOwn places kinds
 own_from places all [] h more = tt
 own_from places all (e ∷ kinds) h more =
     let here : is_some (kind_at (e ∷ kinds) e.0) ≡ true = ap (λ b. is_some (cond b (Some e.1) (kind_at kinds e.0))) (same_number e.0 e.0 refl) in
     (h e.0 (more e.0 here), own_from places all kinds h (λ k is. more k (by_test (nat_eq k e.0) (λ b. rw b refl) (λ b. rw b is))))
 
--- as many items as places
-pub counted : (condition : Condition) (places : List Place) (old new : List Row) (kinds : List (ℕ × Kind)) → IsTable old → IsTable new → IsDistinct nat_eq (keys_of kinds) → IsPending condition places old new kinds
-    → length kinds ≡ items_of (answers_differ condition old new)
-counted condition places old new kinds ho hn d h =
+-- a list has as many items as places
+pub count_listed : (condition : Condition) (places : List Place) (old new : List Row) (kinds : List (ℕ × Kind)) (kind : Kind) → IsTable old → IsTable new → IsDistinct nat_eq (keys_of kinds) → IsPending condition places old new kinds
+    → length (places_of kind kinds) ≡ length (rows_listed kind (filter (passes condition) old) (filter (passes condition) new))
+count_listed condition places old new kinds kind ho hn d h =
     let own = own_from places kinds kinds h.own (λ k is. is) in
-    let count : ((kind : Kind) → length (places_of kind kinds) ≡ length (rows_listed kind (filter (passes condition) old) (filter (passes condition) new))) = λ kind.
     let rows = rows_listed kind (filter (passes condition) old) (filter (passes condition) new) in
     sym (length-map (places_of kind kinds) (path_at places))
     ∙ length-from_same_keys same_equiv (paths_in places kind kinds) (paths_of rows) (distinct places kind kinds d own) (table_distinct rows (table_listed condition old new ho hn kind))
     (λ p. flipped p (paths_in places kind kinds) ∙ members places kind kinds p d own ∙ ap (is_in kind) (h.each p) ∙ sym (listed condition old new ho hn kind p) ∙ sym (flipped p (paths_of rows)))
-    ∙ length-map rows (λ (row : Row). row.path) in
-    let added = count Added in
-    let changed = count Changed in
-    let removed = count Removed in
+    ∙ length-map rows (λ (row : Row). row.path)
+
+-- a notice reads as many rows as it hands out
+pub reads_counted : (condition : Condition) (places : List Place) (old new : List Row) (kinds : List (ℕ × Kind)) → IsTable old → IsTable new → IsDistinct nat_eq (keys_of kinds) → IsPending condition places old new kinds
+    → reads_of kinds ≡ length (answers_differ condition old new).added + length (answers_differ condition old new).changed
+reads_counted condition places old new kinds ho hn d h =
+    let added = count_listed condition places old new kinds Added ho hn d h in
+    let changed = count_listed condition places old new kinds Changed ho hn d h in
+    omega arith
+
+-- as many items as places
+pub counted : (condition : Condition) (places : List Place) (old new : List Row) (kinds : List (ℕ × Kind)) → IsTable old → IsTable new → IsDistinct nat_eq (keys_of kinds) → IsPending condition places old new kinds
+    → length kinds ≡ items_of (answers_differ condition old new)
+counted condition places old new kinds ho hn d h =
+    let added = count_listed condition places old new kinds Added ho hn d h in
+    let changed = count_listed condition places old new kinds Changed ho hn d h in
+    let removed = count_listed condition places old new kinds Removed ho hn d h in
     let removed_paths = length-map (rows_listed Removed (filter (passes condition) old) (filter (passes condition) new)) (λ (row : Row). row.path) in
     let all = all_counted kinds in
     omega arith

@@ -1,5 +1,6 @@
 -- Pending differences, by the places of a store.
-use Rattle.std.specs.Prelude.{◌≡◌, ◌==◌, ℕ, Bool, List, Option, Some, is_some, true, filter, if◌then◌else◌}
+use Rattle.std.specs.Prelude.{◌≡◌, ◌==◌, ℕ, ◌<◌, Bool, List, [], Option, Some, is_some, true, filter, length, if◌then◌else◌}
+use Rattle.std.specs.List.{All}
 use Rattle.md_match.specs.Conditions.{Condition, passes}
 use Rattle.md_value.specs.Values.{PathBytes}
 use Rattle.md_world.specs.declared.Row.{Row}
@@ -22,6 +23,10 @@ pub record Touched : Type 0 where
 -- the list that a place is in after a touch
 abbrev pub kind_after : Touched → List (ℕ × Kind) → ℕ → Option Kind
 kind_after touch kinds place = if touch.place == place then touch.kind else kind_at kinds place
+
+-- the places are among so many
+abbrev pub AreWithin : ℕ → List (ℕ × Kind) → Type 0
+AreWithin count kinds = All (λ (entry : ℕ × Kind). entry.0 < count) kinds
 
 -- how an answer on new rows differs from that on old ones
 abbrev pub answers_differ : Condition → List Row → List Row → Difference

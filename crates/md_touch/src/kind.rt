@@ -1,7 +1,7 @@
 // The lists of a difference.
 ghost use Rattle.std.specs.Prelude.{◌≡◌, IfOk};
 ghost use Rattle.std.specs.Option.{option_map, option_copied};
-ghost use Rattle.md_touch.specs.Kinds.{kept, kind_for, kind_by_rows};
+ghost use Rattle.md_touch.specs.Kinds.{kept, kind_for, kind_by_rows, is_kind};
 
 use md_match::Filter;
 use md_world::Row;
@@ -16,6 +16,20 @@ pub enum Kind {
     Changed,
     /// It had a row of the path, and has none.
     Removed,
+}
+
+impl Kind {
+    /// Whether it is this kind.
+    pub(crate) fn is(self, kind: Kind) -> bool
+        ensures { result ≡ is_kind kind self }
+    {
+        match (kind, self) {
+            (Kind::Added, Kind::Added) => true,
+            (Kind::Changed, Kind::Changed) => true,
+            (Kind::Removed, Kind::Removed) => true,
+            _ => false,
+        }
+    }
 }
 
 // The row, if it passes the filter.

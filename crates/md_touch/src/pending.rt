@@ -1,20 +1,26 @@
 // The pending difference of one query.
-ghost use Rattle.std.specs.Prelude.{◌≡◌, ℕ, List, [], false, true, OnErr, IfOk, is_some, length};
+ghost use Rattle.std.specs.Prelude.{◌≡◌, ◌+◌, ◌≤◌, ℕ, List, [], false, true, OnErr, IfOk, is_some, length};
 ghost use Rattle.std.specs.Option.{option_map};
 ghost use Rattle.md_match.specs.Conditions.{Condition};
 ghost use Rattle.md_world.specs.declared.Row.{Row as OneRow};
 ghost use Rattle.md_world.specs.Tables.{IsTable};
 ghost use Rattle.md_world.specs.Differences.{items_of};
-ghost use Rattle.md_store.specs.Places.{Place};
+ghost use Rattle.md_machine.specs.Answers.{notice_of};
+ghost use Rattle.md_store.specs.Places.{Place, table_at};
 ghost use Rattle.md_touch.specs.Kinds.{kind_at, kind_for};
-ghost use Rattle.md_touch.specs.Pendings.{kind_after, answers_differ, IsPending};
+ghost use Rattle.md_touch.specs.Listed.{reads_of};
+ghost use Rattle.md_touch.specs.Pendings.{kind_after, AreWithin, answers_differ, IsPending};
 
 use crate::kind::{Kind, kind_for};
+use crate::listed::{removed_in_order, rows_in_order};
 use indexmap::IndexMap;
 use md_match::Filter;
-use md_world::Row;
+use md_store::Store;
+use md_value::Items;
+use md_world::{Notice, Row, Steps};
 use std::alloc::{AllocError, Global};
 use std::marker::Model;
+use std::sync::ledger::Ledger;
 
 /// A change of a pending difference at one place, with all the memory that it needs. Contracts see the place and the list that
 /// it is from then on in.
@@ -120,5 +126,35 @@ impl Pending {
         ensures items { (condition : Condition) (places : List Place) (old new : List OneRow) → IsTable old → IsTable new → IsPending condition places old new self.now.kinds → result ≡ items_of (answers_differ condition old new) }
     {
         self.kinds.len()
+    }
+
+    /// The notice of the difference from a version to the newest one. It reads the row of each item that is added or changed.
+    /// Fails only where memory runs out.
+    pub fn notice<L: Ledger>(
+        &self,
+        from: u32,
+        to: u32,
+        store: &Store,
+        steps: &mut Steps<L>,
+    ) -> Result<Notice, AllocError>
+        requires newest { to ≡ store.now.version }
+        requires within { AreWithin (length store.now.places) self.now.kinds }
+        // Where it is the difference from an old table to the newest one, the notice is of this difference.
+        ensures notice { (condition : Condition) (old : List OneRow) → IsTable old → IsPending condition store.now.places old (table_at store.now.places to) self.now.kinds → IfOk result (λ notice. notice ≡ notice_of (answers_differ condition old (table_at store.now.places to)) from to) }
+        ensures cost { IfOk result (λ _. steps.new ≡ steps.old + reads_of self.now.kinds) }
+        ensures bound { steps.new ≤ steps.old + reads_of self.now.kinds }
+        // These are as many as the rows that the notice hands out.
+        ensures reads { (condition : Condition) (old : List OneRow) → IsTable old → IsPending condition store.now.places old (table_at store.now.places to) self.now.kinds → reads_of self.now.kinds ≡ length (answers_differ condition old (table_at store.now.places to)).added + length (answers_differ condition old (table_at store.now.places to)).changed }
+    {
+        let added = rows_in_order(self.alloc, &self.kinds, Kind::Added, store, steps)?;
+        let changed = rows_in_order(self.alloc, &self.kinds, Kind::Changed, store, steps)?;
+        let removed = removed_in_order(self.alloc, &self.kinds, store)?;
+        Ok(Notice {
+            from,
+            to,
+            added: Items::from_vec(added),
+            changed: Items::from_vec(changed),
+            removed: Items::from_vec(removed),
+        })
     }
 }

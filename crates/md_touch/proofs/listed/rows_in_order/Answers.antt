@@ -1,0 +1,18 @@
+use Rattle.std.proofs.Common.{◌≡◌, ◌+◌, ◌≤◌, ℕ, List, length, map, sym, ap, subst, ◌∙◌}
+use Rattle.std.proofs.lemmas.Result.{IfOk-weaker}
+use Rattle.md_world.specs.Tables.{shown}
+use Rattle.md_world.proofs.Tables.{table_with_rows}
+use Rattle.md_store.specs.Places.{rows_seen, table_at}
+use Rattle.md_touch.specs.declared.listed.Named.{Named}
+use Rattle.md_touch.specs.Listed.{places_of, AreInOrder}
+use Rattle.md_touch.proofs.Listing.{rows_in_turn, as_many}
+use Rattle.md_touch.proofs.listed.rows_in_order.Goals as goal
+
+pub returns-clause-rows : goal.returns-clause-rows
+returns-clause-rows g c condition old ho h =
+    let s = c.args.store.now in
+    let kinds = c.args.kinds.now in
+    let ys = c.in_ok-found.found.items in
+    IfOk-weaker c.rows_at.result _ _
+    (λ rows is. is ∙ ap (map shown) (rows_in_turn condition s.places old (table_at s.places s.version) kinds.entries c.args.kind _ c.requires.kind ho (table_with_rows [] (rows_seen s.places s.version) tt) c.requires.unique h
+    (subst (AreInOrder s.places (places_of c.args.kind kinds.entries)) (sym c.deref-found.ensures.value) c.in_ok-found.ensures))) c.rows_at.ensures.rows
