@@ -19,7 +19,7 @@ use Rattle.md_query.specs.declared.asking.Ask.TheVariants as ask
 use Rattle.md_query.specs.declared.asking.Effect.{Effect}
 use Rattle.md_query.specs.Asked.{newest_of, answered}
 use Rattle.md_hub.specs.declared.asks.Call.{Call}
-use Rattle.md_hub.specs.Asked.{settled_in, IsSettled, LeavesShown, IsAnswer, answer_to}
+use Rattle.md_hub.specs.Asked.{settled_in, IsSettled, LeavesShown, MovesBase, IsAnswer, answer_to}
 use Rattle.md_hub.specs.Pinned.{ArePinned}
 use Rattle.md_hub.specs.Places.{IsPlace, reply_of, queries_after}
 use Rattle.md_hub.specs.States.{with_table, with_tables}
@@ -88,6 +88,15 @@ module _ (s : Stored) (qs : List Query) (call : Call) (place : ℕ) (is : IsPlac
           | inr newest ↦ ap (is_shown s) (base ∙ newest) ∙ newest_shown s
         ])
 
+    moves : MovesBase s qs place effect
+    moves q h =
+        let base : (settled_in is.query effect).base ≡ (answer_to s call (with_table s.places is.query)).query.base = ap (λ (x : Query). x.base) left in
+        subst (λ (x : Query). ((settled_in x effect).base ≡ x.base) ⊎ ((settled_in x effect).base ≡ s.version)) (is_at q h)
+        (elim (base_stays (newest_of s.limits s) (with_table s.places is.query) call.now_ms call.ask) [
+          | inl same ↦ inl (base ∙ same)
+          | inr newest ↦ inr (base ∙ newest)
+        ])
+
     settles : (new : List Query) → IsSettled qs new place effect → tables new ≡ queries_after (answer_to s call) (tables qs) (query_at (tables qs) call.client call.number)
     settles new set =
         let key = key_of call.client call.number is.query (found_key qs call.client call.number is.query is.found) in
@@ -97,7 +106,7 @@ module _ (s : Stored) (qs : List Query) (call : Call) (place : ℕ) (is : IsPlac
         ∙ ap (queries_after (answer_to s call) (tables qs)) (sym asked_found)
 
     pub is_answer : ArePinned s.pins qs → answer ≡ (answer_to s call (with_table s.places is.query)).reply → IsAnswer s qs call place answer effect
-    is_answer all same = record { reply = same ∙ asked_reply; shown = leaves all; settles = settles }
+    is_answer all same = record { reply = same ∙ asked_reply; shown = leaves all; moves = moves; settles = settles }
 
 -- where no query is asked
 module _ (s : Stored) (qs : List Query) (call : Call) (none : query_at qs call.client call.number ≡ None) where

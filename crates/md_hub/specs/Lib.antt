@@ -7,5 +7,6 @@ pub mod Pinned
 pub mod Asked
 pub mod Stepping
 pub mod Sound
+pub mod Pendings
 pub mod Received
 pub mod Given

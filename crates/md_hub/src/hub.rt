@@ -19,6 +19,7 @@ use crate::{Held, desk, queries};
 use md_machine::{Event, Reply, Spec};
 use md_query::{Ask, copy_rows, read};
 use md_store::Store;
+use md_touch::Pending;
 use md_value::Path;
 use md_world::{Change, Limits, Row, Steps};
 use std::alloc::{AllocError, Global};
@@ -30,11 +31,12 @@ use std::sync::ledger::{Blank, Ledger};
 pub struct Hub {
     store: Store,
     queries: Vec<LiveQuery>,
+    pendings: Vec<Pending>,
 }
 
 impl Model for Hub {
     ghost use Rattle.md_hub.specs.Served.{Served, served_of};
-    ghost use Rattle.md_hub.specs.Sound.{IsKept};
+    ghost use Rattle.md_hub.specs.Pendings.{IsServing};
 
     ghost Value = { Served };
 
@@ -45,7 +47,7 @@ impl Model for Hub {
 
     ghost view = { λ h. served_of h.store h.queries.items };
 
-    ghost invariant = { λ h. IsKept h.store h.queries.items };
+    ghost invariant = { λ h. IsServing h.store h.queries.items h.pendings.items };
 }
 
 impl Hub {
@@ -56,6 +58,7 @@ impl Hub {
         Hub {
             store: Store::new(alloc, limits),
             queries: Vec::new(alloc),
+            pendings: Vec::new(alloc),
         }
     }
 
@@ -70,7 +73,38 @@ impl Hub {
         desk::draw(&mut self.store, path)
     }
 
-    fn commit(&mut self, number: u32, change: &Change) -> Result<Reply, AllocError>
+    fn commit<L: Ledger>(
+        &mut self,
+        number: u32,
+        change: &Change,
+        steps: &mut Steps<L>,
+    ) -> Result<Reply, AllocError>
+        ensures reply { IfOk result (λ r. r ≡ (step self.old.state (Event.Commit number change.now)).reply) }
+        ensures state { OnOk result (self.new.state ≡ (step self.old.state (Event.Commit number change.now)).state) }
+        ensures kept { IfOk result (λ r. self.new.places ≡ kept_by self.old.state.tickets self.old.places number change.now r) }
+        ensures err { OnErr result (self.new ≡ self.old) }
+        ensures memory { OnErr result (takes_memory (step self.old.state (Event.Commit number change.now)).reply ≡ true) }
+        ensures plain { IfOk result (λ r. delivers r ≡ false) }
+        ensures reads { steps.new ≤ steps.old + length self.old.state.queries }
+    {
+        desk::commit(
+            &mut self.store,
+            &self.queries,
+            &mut self.pendings,
+            number,
+            change,
+            steps,
+        )
+    }
+
+    fn commit_counted<L: Ledger>(
+        &mut self,
+        number: u32,
+        change: &Change,
+        blank: Blank,
+    ) -> Result<Reply, AllocError>
+        requires name { blank.name ≡ L.name }
+        requires parts { (blank.parts ≡ L.parts) × (0 < L.parts) }
         ensures reply { IfOk result (λ r. r ≡ (step self.old.state (Event.Commit number change.now)).reply) }
         ensures state { OnOk result (self.new.state ≡ (step self.old.state (Event.Commit number change.now)).state) }
         ensures kept { IfOk result (λ r. self.new.places ≡ kept_by self.old.state.tickets self.old.places number change.now r) }
@@ -78,7 +112,20 @@ impl Hub {
         ensures memory { OnErr result (takes_memory (step self.old.state (Event.Commit number change.now)).reply ≡ true) }
         ensures plain { IfOk result (λ r. delivers r ≡ false) }
     {
-        desk::commit(&mut self.store, number, change)
+        let mut steps = Steps::<L>::open(blank);
+        self.commit(number, change, &mut steps)
+    }
+
+    // A commit over a counter of its own.
+    fn commit_alone(&mut self, number: u32, change: &Change) -> Result<Reply, AllocError>
+        ensures reply { IfOk result (λ r. r ≡ (step self.old.state (Event.Commit number change.now)).reply) }
+        ensures state { OnOk result (self.new.state ≡ (step self.old.state (Event.Commit number change.now)).state) }
+        ensures kept { IfOk result (λ r. self.new.places ≡ kept_by self.old.state.tickets self.old.places number change.now r) }
+        ensures err { OnErr result (self.new ≡ self.old) }
+        ensures memory { OnErr result (takes_memory (step self.old.state (Event.Commit number change.now)).reply ≡ true) }
+        ensures plain { IfOk result (λ r. delivers r ≡ false) }
+    {
+        self.commit_counted::<Brand>(number, change, Blank::new(1))
     }
 
     fn close(&mut self, number: u32) -> Reply
@@ -115,6 +162,7 @@ impl Hub {
         asks::create(
             alloc,
             &mut self.queries,
+            &mut self.pendings,
             &mut self.store,
             client,
             number,
@@ -134,9 +182,9 @@ impl Hub {
         ensures err { OnErr result (self.new ≡ self.old) }
         ensures memory { OnErr result (takes_memory (outcome_of self.old.state (answered self.old.state call.ask call.now_ms) (query_at self.old.state.queries call.client call.number)).reply ≡ true) }
         ensures kept { IfOk result (λ r. self.new.places ≡ self.old.places) }
-        ensures reads { steps.new ≤ steps.old + reads_asked self.old.state.table (answered self.old.state call.ask call.now_ms) (query_at self.old.state.queries call.client call.number) }
+        ensures reads { steps.new ≤ steps.old + reads_asked (answered self.old.state call.ask call.now_ms) (query_at self.old.state.queries call.client call.number) }
     {
-        asks::ask(alloc, &mut self.queries, &mut self.store, call, steps)
+        asks::ask(alloc, &mut self.queries, &mut self.pendings, &mut self.store, call, steps)
     }
 
     fn ask_counted<L: Ledger>(
@@ -155,7 +203,7 @@ impl Hub {
         ensures kept { IfOk result (λ r. self.new.places ≡ self.old.places) }
     {
         let mut steps = Steps::<L>::open(blank);
-        asks::ask_twice(alloc, &mut self.queries, &mut self.store, call, &mut steps)
+        asks::ask_twice(alloc, &mut self.queries, &mut self.pendings, &mut self.store, call, &mut steps)
     }
 
     // What the query that is asked answers, twice, over a counter of its own.
@@ -176,7 +224,7 @@ impl Hub {
         ensures kept { self.new.places ≡ self.old.places }
         ensures plain { delivers result ≡ false }
     {
-        if asks::stop(&mut self.queries, &mut self.store, client, number) {
+        if asks::stop(&mut self.queries, &mut self.pendings, &mut self.store, client, number) {
             Reply::Stopped
         } else {
             Reply::NoQuery
@@ -208,7 +256,7 @@ impl Hub {
     {
         match event {
             Event::Draw { path } => self.draw(path),
-            Event::Commit { ticket, change } => self.commit(*ticket, change),
+            Event::Commit { ticket, change } => self.commit(*ticket, change, steps),
             Event::Close { ticket } => Ok(self.close(*ticket)),
             Event::Create {
                 client,
@@ -249,7 +297,7 @@ impl Hub {
     {
         match event {
             Event::Draw { path } => Ok(twice(self.draw(path)?)),
-            Event::Commit { ticket, change } => Ok(twice(self.commit(*ticket, change)?)),
+            Event::Commit { ticket, change } => Ok(twice(self.commit_alone(*ticket, change)?)),
             Event::Close { ticket } => Ok(twice(self.close(*ticket))),
             Event::Create {
                 client,

@@ -15,6 +15,7 @@ mod asks;
 mod desk;
 mod held;
 mod hub;
+mod pendings;
 mod queries;
 mod query;
 mod runs;

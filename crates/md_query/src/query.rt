@@ -1,5 +1,5 @@
 // One query: what it answers when it is asked, and what that makes of it.
-ghost use Rattle.std.specs.Prelude.{◌≡◌, ℕ, List, ◌≤◌, ◌<◌, ◌+◌, ◌^◌, IfOk, OnErr, true, false, take, drop, map, length, is_some};
+ghost use Rattle.std.specs.Prelude.{◌≡◌, ℕ, List, ◌≤◌, ◌<◌, ◌+◌, ◌^◌, IfOk, OnOk, OnErr, true, false, take, drop, map, length, Some};
 ghost use Rattle.md_machine.specs.Answers.{answer, shown_answer, diff, notice_of, condition_of};
 ghost use Rattle.md_machine.specs.Laws.{hits_given};
 ghost use Rattle.md_machine.specs.Replies.{takes_memory};
@@ -21,7 +21,7 @@ use crate::tables;
 use md_machine::{Reply, Spec};
 use md_match::Filter;
 use md_store::{Ready, Store};
-use md_touch::{Pending, Touch};
+use md_touch::Pending;
 use md_value::Items;
 use md_world::{Limits, Order, Row, Rows, Steps};
 use std::alloc::{AllocError, Global};
@@ -425,19 +425,18 @@ impl Query {
         self.answer(alloc, ask, now_ms, limits, store, pending, steps)
     }
 
-    /// The change of its pending difference by a commit that is ready. Takes all the memory of the change; reads the row that
-    /// its base has of the commit's path, if the path is stamped. Fails only where memory runs out.
+    /// Makes the change of its pending difference by a commit ready. Takes all the memory of the change; reads the row that its
+    /// base has of the commit's path, if the path is stamped. Fails only where memory runs out.
     pub fn touch<L: Ledger>(
         &self,
         store: &Store,
         ready: &Ready,
         pending: &mut Pending,
         steps: &mut Steps<L>,
-    ) -> Result<Touch, AllocError>
+    ) -> Result<(), AllocError>
         requires shown { is_shown store.now self.now.base ≡ true }
         requires ready { IsReady store.now ready.now }
-        ensures touch { IfOk result (λ t. t ≡ touch_by store.now self.now ready.now) }
-        ensures ready { IfOk result (λ t. pending.new ≡ record pending.old { room = is_some t.kind }) }
+        ensures ready { OnOk result (pending.new ≡ record pending.old { next = Some (touch_by store.now self.now ready.now) }) }
         ensures err { OnErr result (pending.new ≡ pending.old) }
         ensures reads { steps.new ≤ steps.old + 1 }
     {

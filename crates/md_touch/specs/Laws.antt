@@ -7,11 +7,12 @@ use Rattle.md_world.specs.Tables.{at, after, row_of}
 use Rattle.md_match.specs.Conditions.{Condition}
 use Rattle.md_store.specs.Places.{Place, place_for, with_commit, places_seen}
 use Rattle.md_touch.specs.declared.kind.Kind.{Kind}
+use Rattle.md_touch.specs.declared.pending.Touch.{Touch}
 use Rattle.md_touch.specs.Kinds.{kind_at, kind_for}
-use Rattle.md_touch.specs.Pendings.{Touched, kind_after, IsPending}
+use Rattle.md_touch.specs.Pendings.{kind_after, IsPending}
 
 -- the touch of a commit: at the place that its path has or will have, by the rows that the path has on the base and gets
-abbrev pub touch_of : Condition → List Place → List Row → PathBytes → Change → Touched
+abbrev pub touch_of : Condition → List Place → List Row → PathBytes → Change → Touch
 touch_of condition places old path change =
     record { place = place_for places path; kind = kind_for condition (at old path) (row_of path change) }
 

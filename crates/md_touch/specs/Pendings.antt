@@ -1,5 +1,5 @@
 -- Pending differences, by the places of a store.
-use Rattle.std.specs.Prelude.{◌≡◌, ◌==◌, ℕ, ◌<◌, Bool, List, [], Option, Some, is_some, true, filter, length, if◌then◌else◌}
+use Rattle.std.specs.Prelude.{◌≡◌, ◌==◌, ℕ, ◌<◌, Bool, List, [], Option, None, Some, is_some, true, false, filter, length, if◌then◌else◌}
 use Rattle.std.specs.List.{All}
 use Rattle.md_match.specs.Conditions.{Condition, passes}
 use Rattle.md_value.specs.Values.{PathBytes}
@@ -8,21 +8,27 @@ use Rattle.md_world.specs.Tables.{at}
 use Rattle.md_world.specs.Differences.{Difference, difference}
 use Rattle.md_store.specs.Places.{Place, place_in, path_at}
 use Rattle.md_touch.specs.declared.kind.Kind.{Kind}
+use Rattle.md_touch.specs.declared.pending.Touch.{Touch}
 use Rattle.md_touch.specs.Kinds.{kind_at, kind_in, kind_for}
 
--- the places that are in a list, each with its list, and whether one more takes no memory
+-- the places that are in a list, each with its list, and the change that is ready
 pub record Pended : Type 0 where
   pub kinds : List (ℕ × Kind)
-  pub room : Bool
+  pub next : Option Touch
 
--- the list that a place is from now on in, if it is in one
-pub record Touched : Type 0 where
-  pub place : ℕ
-  pub kind : Option Kind
+-- whether a change puts a place in a list
+abbrev pub takes_room : Option Touch → Bool
+takes_room None = false
+takes_room (Some touch) = is_some touch.kind
 
 -- the list that a place is in after a touch
-abbrev pub kind_after : Touched → List (ℕ × Kind) → ℕ → Option Kind
+abbrev pub kind_after : Touch → List (ℕ × Kind) → ℕ → Option Kind
 kind_after touch kinds place = if touch.place == place then touch.kind else kind_at kinds place
+
+-- the list that a place is in after the change that is ready
+abbrev pub kind_next : Option Touch → List (ℕ × Kind) → ℕ → Option Kind
+kind_next None kinds place = kind_at kinds place
+kind_next (Some touch) kinds place = kind_after touch kinds place
 
 -- the places are among so many
 abbrev pub AreWithin : ℕ → List (ℕ × Kind) → Type 0

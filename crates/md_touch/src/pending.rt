@@ -1,5 +1,5 @@
 // The pending difference of one query.
-ghost use Rattle.std.specs.Prelude.{◌≡◌, ◌+◌, ◌≤◌, ℕ, List, [], false, true, OnErr, IfOk, is_some, length};
+ghost use Rattle.std.specs.Prelude.{◌≡◌, ◌+◌, ◌≤◌, ℕ, List, [], None, Some, OnErr, OnOk, IfOk, length};
 ghost use Rattle.std.specs.Option.{option_map};
 ghost use Rattle.md_match.specs.Conditions.{Condition};
 ghost use Rattle.md_world.specs.declared.Row.{Row as OneRow};
@@ -9,7 +9,7 @@ ghost use Rattle.md_machine.specs.Answers.{notice_of};
 ghost use Rattle.md_store.specs.Places.{Place, table_at};
 ghost use Rattle.md_touch.specs.Kinds.{kind_at, kind_for};
 ghost use Rattle.md_touch.specs.Listed.{reads_of};
-ghost use Rattle.md_touch.specs.Pendings.{kind_after, AreWithin, answers_differ, IsPending};
+ghost use Rattle.md_touch.specs.Pendings.{kind_next, AreWithin, answers_differ, IsPending};
 
 use crate::kind::{Kind, kind_for};
 use crate::listed::{removed_in_order, rows_in_order};
@@ -22,83 +22,76 @@ use std::alloc::{AllocError, Global};
 use std::marker::Model;
 use std::sync::ledger::Ledger;
 
-/// A change of a pending difference at one place, with all the memory that it needs. Contracts see the place and the list that
-/// it is from then on in.
-#[derive(Debug, Drop)]
+/// A change of a pending difference at one place: the list that it is from then on in, if it is in one.
+#[derive(Clone, Copy, Debug, PartialEq, Eq)]
 pub struct Touch {
     place: u32,
     kind: Option<Kind>,
 }
 
-impl Model for Touch {
-    ghost use Rattle.md_touch.specs.Pendings.{Touched};
-
-    ghost Value = { Touched };
-
-    ghost view = { λ t. record { place = t.place; kind = t.kind } };
-}
-
 /// The pending difference of a query between its base and the newest version. Contracts see the places that are in one of its
-/// three lists, and whether one more takes no memory.
+/// three lists, and the change that is ready.
 #[derive(Drop)]
 pub struct Pending {
     alloc: Global,
     kinds: IndexMap<u32, Kind>,
-    room: bool,
+    next: Option<Touch>,
 }
 
 impl Model for Pending {
     ghost use Rattle.std.specs.Prelude.{◌≡◌, ◌<◌, true, nat_eq};
     ghost use Rattle.indexmap.specs.IndexMap.{spare, IsUnique};
-    ghost use Rattle.md_touch.specs.Pendings.{Pended};
+    ghost use Rattle.md_touch.specs.Pendings.{Pended, takes_room};
 
     ghost Value = { Pended };
 
-    ghost view = { λ p. record { kinds = p.kinds.entries; room = p.room } };
+    ghost view = { λ p. record { kinds = p.kinds.entries; next = p.next } };
 
-    ghost invariant = { λ p. (p.room ≡ true → 0 < spare p.kinds) × IsUnique nat_eq p.kinds };
+    ghost invariant = { λ p. (takes_room p.next ≡ true → 0 < spare p.kinds) × IsUnique nat_eq p.kinds };
 }
 
 impl Pending {
     /// No difference. Takes no memory.
     pub fn new(alloc: Global) -> Pending
-        ensures { result ≡ record { kinds = []; room = false } }
+        ensures { result ≡ record { kinds = []; next = None } }
     {
         Pending {
             alloc,
             kinds: IndexMap::new(alloc),
-            room: false,
+            next: None,
         }
     }
 
-    /// The change of a commit at the place of its path, by the row that the path has on the base and the one that it gets. Takes
-    /// all the memory of `apply`, and fails only where memory runs out.
+    /// Makes the change of a commit ready, at the place of its path, by the row that the path has on the base and the one that it
+    /// gets. Takes all the memory of `apply`, and fails only where memory runs out. A change that was ready and not made is
+    /// forgotten.
     pub fn ready(
         &mut self,
         place: u32,
         base: Option<&Row>,
         after: Option<&Row>,
         filter: &Filter,
-    ) -> Result<Touch, AllocError>
-        ensures touch { IfOk result (λ t. t ≡ record { place = place; kind = kind_for filter.entry.now (option_map (λ r. r.now) base.entry) (option_map (λ r. r.now) after.entry) }) }
-        ensures ready { IfOk result (λ t. self.new ≡ record self.old { room = is_some t.kind }) }
+    ) -> Result<(), AllocError>
+        ensures ready { OnOk result (self.new ≡ record self.old { next = Some (record { place = place; kind = kind_for filter.entry.now (option_map (λ r. r.now) base.entry) (option_map (λ r. r.now) after.entry) }) }) }
         ensures err { OnErr result (self.new ≡ self.old) }
     {
         let kind = kind_for(self.alloc, filter, base, after)?;
         if kind.is_some() {
             self.kinds.reserve(1)?;
         }
-        self.room = kind.is_some();
-        Ok(Touch { place, kind })
+        self.next = Some(Touch { place, kind });
+        Ok(())
     }
 
-    /// Makes a change that is ready. Cannot fail.
-    pub fn apply(&mut self, touch: Touch)
-        requires { self.old.room ≡ is_some touch.kind }
-        ensures kinds { (place : ℕ) → kind_at self.new.kinds place ≡ kind_after touch self.old.kinds place }
-        ensures room { self.new.room ≡ false }
+    /// Makes the change that is ready, if one is. Cannot fail.
+    pub fn apply(&mut self)
+        ensures kinds { (place : ℕ) → kind_at self.new.kinds place ≡ kind_next self.old.next self.old.kinds place }
+        ensures next { self.new.next ≡ None }
     {
-        self.room = false;
+        let Some(touch) = self.next else {
+            return;
+        };
+        self.next = None;
         match touch.kind {
             Some(kind) => {
                 let Ok(_) = self.kinds.insert(touch.place, kind) else {
@@ -113,10 +106,10 @@ impl Pending {
 
     /// Puts no place in a list, where the base becomes the newest version. Takes no memory.
     pub fn clear(&mut self)
-        ensures { self.new ≡ record { kinds = []; room = false } }
+        ensures { self.new ≡ record { kinds = []; next = None } }
     {
         self.kinds = IndexMap::new(self.alloc);
-        self.room = false;
+        self.next = None;
     }
 
     /// The number of its items. Takes no memory and reads no row.

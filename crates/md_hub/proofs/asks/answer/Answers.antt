@@ -81,10 +81,9 @@ returns-clause-reads g c =
     let i = c.args.place in
     let place = c.requires.place in
     let q = place.query in
-    let newest = table_at s.places s.version in
     let was : c.index-queries-place.result ≡ q = c.index-queries-place.is ∙ get_or_from_slice_get qs i q c.index-queries-place.result place.there in
     let same =
-    ap (λ (x : Query). most_reads newest (table_at s.places x.base) (answered (newest_of c.limits-limits.result s) call.ask call.now_ms (with_table s.places x)).reply) was
-    ∙ ap (λ (x : Limits). most_reads newest (table_at s.places q.base) (answered (newest_of x s) call.ask call.now_ms (with_table s.places q)).reply) c.limits-limits.ensures
-    ∙ ap (reads_asked newest (answer_to s call)) (sym (asked_found s qs call i place)) in
+    ap (λ (x : Query). most_reads (table_at s.places x.base) (answered (newest_of c.limits-limits.result s) call.ask call.now_ms (with_table s.places x)).reply) was
+    ∙ ap (λ (x : Limits). most_reads (table_at s.places q.base) (answered (newest_of x s) call.ask call.now_ms (with_table s.places q)).reply) c.limits-limits.ensures
+    ∙ ap (reads_asked (answer_to s call)) (sym (asked_found s qs call i place)) in
     subst (λ (n : ℕ). c.reply.new.steps ≤ c.args.steps.now + n) same c.reply.ensures.reads
