@@ -61,7 +61,7 @@ module _ (s : State) (q : Query) (now : ℕ) where
   base_stays ask.Enable = enable_stays q.disables q.phase
   base_stays ask.Poll = poll_stays q.phase
 
-newest_shown : (s : Stored) → is_shown s s.version ≡ true
+pub newest_shown : (s : Stored) → is_shown s s.version ≡ true
 newest_shown s = let same : (s.version == s.version) ≡ true = grind (arith, nat_tests) in rw same refl
 
 module _ (s : Stored) (qs : List Query) (call : Call) (place : ℕ) (is : IsPlace qs call.client call.number place) where

@@ -12,6 +12,7 @@ use Rattle.md_query.specs.Asked.{answered}
 use Rattle.md_hub.specs.declared.asks.Call.{Call}
 use Rattle.md_hub.specs.Asked.{answer_to}
 use Rattle.md_hub.specs.Pinned.{ArePinned, AreMade, WithPins}
+use Rattle.md_hub.specs.Pendings.{IsSameButRoom}
 use Rattle.md_hub.specs.Places.{queries_after}
 use Rattle.md_hub.specs.Sound.{IsSound, IsKept}
 use Rattle.md_hub.specs.States.{with_tables, state_of}
@@ -54,6 +55,10 @@ module _ (old : Stored) (qs : List Query) (k : IsKept old qs) where
 
   pub kept_same : (new : Stored) → new ≡ old → IsKept new qs
   kept_same new is = subst (λ (s : Stored). IsKept s qs) (sym is) k
+
+  -- where the room alone is another
+  pub kept_room : (new : Stored) → IsSameButRoom old new → IsKept new qs
+  kept_room new is = subst (λ (s : Stored). IsKept s qs) (sym is) (record { sound = k.sound; pinned = k.pinned })
 
   pub kept_made : AreMade old.version qs
   kept_made = made_by_now old.places old.version (state_of old qs).table qs k.sound.queries

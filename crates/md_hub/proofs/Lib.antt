@@ -6,6 +6,7 @@ mod Living
 mod Tying
 mod Pinning
 mod Answering
+mod Differing
 mod Stepping
 pub mod Sound
 mod Keeping

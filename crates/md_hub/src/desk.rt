@@ -11,7 +11,7 @@ ghost use Rattle.md_hub.specs.KeptRows.{kept_by};
 ghost use Rattle.md_hub.specs.Pendings.{ArePending, IsSameButRoom};
 ghost use Rattle.md_hub.specs.Pinned.{AreMade, ArePinned};
 
-use crate::pendings::{self, make_ready};
+use crate::pendings::{apply_all, make_ready};
 use crate::query::LiveQuery;
 use md_machine::{Event, Reply};
 use md_store::{DrawEnd, ReadyEnd, Store};
@@ -65,7 +65,7 @@ pub fn commit<L: Ledger>(
     match store.ready(number, change) {
         Ok(ready) => {
             make_ready(queries, pendings, store, &ready, steps)?;
-            pendings::apply(pendings);
+            apply_all(pendings);
             Ok(Reply::Committed(store.apply(ready)))
         }
         Err(ReadyEnd::NoTicket) => Ok(Reply::NoTicket),

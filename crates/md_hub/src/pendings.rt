@@ -34,7 +34,7 @@ pub fn make_ready<L: Ledger>(
 }
 
 /// Makes all changes that are ready. Cannot fail.
-pub fn apply(pendings: &mut Vec<Pending>)
+pub fn apply_all(pendings: &mut Vec<Pending>)
     ensures { AreMoved pendings.old.items pendings.new.items }
 {
     for place in 0..pendings.len() {

@@ -2,3 +2,4 @@ pub mod Hits
 pub mod Keys
 pub mod Crossing
 mod Turns
+mod Pended

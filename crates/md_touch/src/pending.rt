@@ -133,11 +133,11 @@ impl Pending {
         requires newest { to ≡ store.now.version }
         requires within { AreWithin (length store.now.places) self.now.kinds }
         // Where it is the difference from an old table to the newest one, the notice is of this difference.
-        ensures notice { (condition : Condition) (old : List OneRow) → IsTable old → IsPending condition store.now.places old (table_at store.now.places to) self.now.kinds → IfOk result (λ notice. notice ≡ notice_of (answers_differ condition old (table_at store.now.places to)) from to) }
+        ensures notice { (condition : Condition) (old : List OneRow) → IsTable old → IsPending condition store.now.places old (table_at store.now.places store.now.version) self.now.kinds → IfOk result (λ notice. notice ≡ notice_of (answers_differ condition old (table_at store.now.places store.now.version)) from store.now.version) }
         ensures cost { IfOk result (λ _. steps.new ≡ steps.old + reads_of self.now.kinds) }
         ensures bound { steps.new ≤ steps.old + reads_of self.now.kinds }
         // These are as many as the rows that the notice hands out.
-        ensures reads { (condition : Condition) (old : List OneRow) → IsTable old → IsPending condition store.now.places old (table_at store.now.places to) self.now.kinds → reads_of self.now.kinds ≡ length (answers_differ condition old (table_at store.now.places to)).added + length (answers_differ condition old (table_at store.now.places to)).changed }
+        ensures reads { (condition : Condition) (old : List OneRow) → IsTable old → IsPending condition store.now.places old (table_at store.now.places store.now.version) self.now.kinds → reads_of self.now.kinds ≡ length (answers_differ condition old (table_at store.now.places store.now.version)).added + length (answers_differ condition old (table_at store.now.places store.now.version)).changed }
     {
         let added = rows_in_order(self.alloc, &self.kinds, Kind::Added, store, steps)?;
         let changed = rows_in_order(self.alloc, &self.kinds, Kind::Changed, store, steps)?;

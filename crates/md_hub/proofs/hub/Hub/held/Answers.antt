@@ -16,4 +16,4 @@ returns-clause-ordered g c =
     IfOk-weaker c.held.result _ _
     (λ held is. subst (λ (o : Option Held). IfSome o (λ given. IsTable given.rows))
     (sym (is ∙ ap (λ qs. option_map given_by (query_at (with_tables h.store.places qs) c.args.client c.args.number)) c.deref.ensures.value))
-    (given_ordered h.store.limits (state_of h.store h.queries.items) c.self.invariant.sound c.args.client c.args.number)) c.held.ensures.given
+    (given_ordered h.store.limits (state_of h.store h.queries.items) c.self.invariant.kept.sound c.args.client c.args.number)) c.held.ensures.given

@@ -1,0 +1,23 @@
+-- What is pending for a query is the machine's difference.
+use Rattle.std.proofs.Common.{◌≡◌, ℕ, List, [], map, length, refl}
+use Rattle.std.proofs.lemmas.List.{length-map}
+use Rattle.md_world.specs.declared.Row.{Row}
+use Rattle.md_world.specs.Tables.{IsTable, shown}
+use Rattle.md_world.proofs.Tables.{table_with_rows}
+use Rattle.md_machine.specs.declared.Spec.{Spec}
+use Rattle.md_machine.specs.Answers.{condition_of, answer, diff}
+use Rattle.md_store.specs.Places.{Place, rows_seen, table_at}
+use Rattle.md_touch.specs.Pendings.{answers_differ}
+
+-- by a spec's condition
+pub differ_is : (spec : Spec) (old new : List Row) → answers_differ (condition_of spec) old new ≡ diff spec old new
+unfolding answer
+differ_is spec old new = refl
+
+-- each version's table is one
+pub base_table : (places : List Place) (version : ℕ) → IsTable (table_at places version)
+base_table places version = table_with_rows [] (rows_seen places version) tt
+
+-- rows are as many as they are shown
+pub rows_shown : (rows : List Row) → length (map shown rows) ≡ length rows
+rows_shown rows = length-map rows shown
