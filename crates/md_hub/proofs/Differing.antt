@@ -1,6 +1,6 @@
 -- The pending difference of each live query, through commits, answers and vacuums.
 use Rattle.std.proofs.Common.{◌≡◌, ◌⊎◌, inl, inr, ℕ, zero, suc, ◌<◌, ◌≤◌, ◌+◌, Bool, true, false, List, [], ◌∷◌, ◌++◌, length, take, drop, refl, sym, ap, ◌∙◌, subst, arith, length-append}
-use Rattle.std.specs.Prelude.{Option, None, Some, slice_get, slice_set, remove}
+use Rattle.std.specs.Prelude.{Option, None, Some, slice_get, slice_set, remove, if◌then◌else◌}
 use Rattle.std.specs.List.{AllByRecursion, IsDistinct}
 use Rattle.std.proofs.lemmas.List.{length-set}
 use Rattle.std.proofs.lemmas.Map.Keys.{IsDistinct-head, IsDistinct-tail}
@@ -231,7 +231,7 @@ set_get (z ∷ xs) (suc i) (suc j) x y h = elim (set_get xs i j x y h) [
   | inr other ↦ inr ((λ e. other.0 (omega (arith, e))), other.1)
 ]
 
-settled_spec : (q : Query) (e : Effect) → (settled_in q e).spec ≡ q.spec
+pub settled_spec : (q : Query) (e : Effect) → (settled_in q e).spec ≡ q.spec
 settled_spec q effect.Keep = refl
 settled_spec q (effect.Give given) = refl
 settled_spec q (effect.Finish now) = refl
@@ -276,6 +276,17 @@ module _ (s : Stored) (qs : List Query) (ps : List Pended) (h : ArePending s qs 
           ]
         ];
       }
+
+  -- whichever it is
+  pub pending_settled : (ps' : List Pended) (moved : Bool) → ((new.base ≡ q.base) ⊎ (new.base ≡ s.version)) → (moved ≡ false → new.base ≡ q.base) → (moved ≡ true → new.base ≡ q.base → ⊥)
+      → ps' ≡ (if moved then slice_set ps i (record { kinds = []; next = None }) else ps) → ArePending s (slice_set qs i new) ps'
+  pending_settled ps' moved base stays leaves is =
+      by_test moved
+      (λ e. elim base [
+        | inl same ↦ absurd (leaves e same)
+        | inr newest ↦ subst (ArePending s (slice_set qs i new)) (sym (is ∙ ap (λ b. if b then slice_set ps i (record { kinds = []; next = None }) else ps) e)) (pending_emptied (record { kinds = []; next = None }) refl newest)
+      ])
+      (λ e. subst (ArePending s (slice_set qs i new)) (sym (is ∙ ap (λ b. if b then slice_set ps i (record { kinds = []; next = None }) else ps) e)) (pending_kept (stays e)))
 
 -- loops over pending differences
 pub alike_itself : (ps : List Pended) → AreAlike ps ps

@@ -238,6 +238,7 @@ impl Store {
         ensures row { option_copied result ≡ at (table_at self.now.places version) ready.now.path }
         ensures reads { steps.new ≤ steps.old + 1 }
     {
+        let _most = self.limits.paths;
         if ready.is_new() {
             return None;
         }

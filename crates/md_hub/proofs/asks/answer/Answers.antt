@@ -1,5 +1,6 @@
-use Rattle.std.proofs.Common.{◌≡◌, ◌≤◌, ◌+◌, ℕ, true, sym, ap, subst, ◌∙◌}
-use Rattle.std.proofs.lemmas.Option.{get_or_from_slice_get}
+use Rattle.std.specs.Prelude.{Some, slice_get}
+use Rattle.std.proofs.Common.{◌≡◌, ◌≤◌, ◌+◌, ℕ, arith, true, sym, ap, subst, ◌∙◌}
+use Rattle.std.proofs.lemmas.Option.{get_or_from_slice_get, slice_get-get_or, slice_get_within}
 use Rattle.md_world.specs.declared.Limits.{Limits}
 use Rattle.md_world.specs.Differences.{items_of}
 use Rattle.md_machine.specs.Answers.{diff}
@@ -11,6 +12,7 @@ use Rattle.md_store.specs.Stores.{is_shown}
 use Rattle.md_query.specs.Asked.{newest_of, answered}
 use Rattle.md_query.specs.Reads.{most_reads}
 use Rattle.md_hub.specs.Asked.{settled_in, answer_to}
+use Rattle.md_hub.specs.Pendings.{IsPendingAt}
 use Rattle.md_hub.specs.Reads.{reads_asked}
 use Rattle.md_hub.specs.States.{with_table}
 use Rattle.md_hub.proofs.Answering.{asked_found, asked_reply, is_answer}
@@ -87,3 +89,24 @@ returns-clause-reads g c =
     ∙ ap (λ (x : Limits). most_reads (table_at s.places q.base) (answered (newest_of x s) call.ask call.now_ms (with_table s.places q)).reply) c.limits-limits.ensures
     ∙ ap (reads_asked (answer_to s call)) (sym (asked_found s qs call i place)) in
     subst (λ (n : ℕ). c.reply.new.steps ≤ c.args.steps.now + n) same c.reply.ensures.reads
+
+pub index-pendings-place-requires : goal.index-pendings-place-requires
+index-pendings-place-requires g c =
+    let place = c.requires.place in
+    let lt = slice_get_within c.args.queries.now c.args.place place.query place.there in
+    let same = c.requires.pending.same in
+    omega arith
+
+pub reply-requires-clause-pending : goal.reply-requires-clause-pending
+reply-requires-clause-pending g c =
+    let qs = c.args.queries.now in
+    let ps = c.args.pendings.now in
+    let i = c.args.place in
+    let place = c.requires.place in
+    let q = place.query in
+    let lt = slice_get_within qs i q place.there in
+    let same = c.requires.pending.same in
+    let was : c.index-queries-place.result ≡ q = c.index-queries-place.is ∙ get_or_from_slice_get qs i q c.index-queries-place.result place.there in
+    let p = c.index-pendings-place.result in
+    let there : slice_get ps i ≡ Some p = slice_get-get_or ps i p (omega arith) ∙ ap Some (sym c.index-pendings-place.is) in
+    subst (λ (x : Query). IsPendingAt c.args.store.now x p) (sym was) (c.requires.pending.each i q p place.there there)

@@ -1,6 +1,6 @@
 use Rattle.std.proofs.Common.{◌≡◌, ◌<◌, length, sym, ap, subst, ◌∙◌}
 use Rattle.md_world.specs.Tables.{at}
-use Rattle.md_store.specs.Places.{path_at, table_at}
+use Rattle.md_store.specs.Places.{path_at, table_at, ArePlaces}
 use Rattle.md_store.specs.Stores.{Stored}
 use Rattle.md_store.proofs.Placing.{for_there, place_within}
 use Rattle.md_store.proofs.Reading.{ready_path, none_there, not_last, last}
@@ -19,7 +19,8 @@ returns-then-is_new-clause-row g c =
     let s = c.self.inside in
     let r = c.args.ready.now in
     let new = last r.place (length c.args.self.now.places) (sym c.requires.ready.is_new ∙ sym c.is_new.ensures ∙ c.if-is_new.true) in
-    rw (← c.self.view_is) (sym (none_there s.version c.args.version c.args.self.now.places r.path r.place c.self.invariant.places c.requires.ready.place new))
+    let places : ArePlaces s.version c.args.self.now.places = subst (ArePlaces s.version) (ap (λ (x : Stored). x.places) c.self.view_is) c.self.invariant.places in
+    sym (none_there s.version c.args.version c.args.self.now.places r.path r.place places c.requires.ready.place new)
 
 pub returns-clause-row : goal.returns-clause-row
 returns-clause-row g c =
