@@ -14,6 +14,7 @@ ghost use Rattle.md_hub.specs.Reads.{reads_asked, reads_of, held_reads};
 ghost use Rattle.md_hub.specs.Stepping.{IsStep};
 
 use crate::asks::{self, Call};
+use crate::calls::{call, twice};
 use crate::query::LiveQuery;
 use crate::{Held, desk, queries};
 use md_machine::{Event, Reply, Spec};
@@ -386,23 +387,4 @@ impl Hub {
     {
         asks::held(alloc, &self.queries, &self.store, client, number, steps)
     }
-}
-
-fn call(client: u8, number: u32, ask: Ask, now_ms: u64) -> Call
-    ensures { result ≡ record { client = client; number = number; ask = ask; now_ms = now_ms } }
-{
-    Call {
-        client,
-        number,
-        ask,
-        now_ms,
-    }
-}
-
-fn twice(reply: Reply) -> (Reply, Reply)
-    requires { delivers reply ≡ false }
-    ensures { result ≡ (reply, reply) }
-{
-    let copy = reply.plain_copy();
-    (reply, copy)
 }

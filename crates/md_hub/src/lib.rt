@@ -12,6 +12,7 @@
 
 mod as_core;
 mod asks;
+mod calls;
 mod desk;
 mod held;
 mod hub;

@@ -1,12 +1,12 @@
 -- Named places in order are the paths of a list of the difference.
-use Rattle.std.proofs.Common.{◌≡◌, ℕ, zero, suc, ◌+◌, ◌<◌, ◌≤◌, Bool, true, false, cond, List, [], ◌∷◌, ◌++◌, map, length, get_or, refl, sym, ap, ◌∙◌, subst, arith, AllPairs}
+use Rattle.std.proofs.Common.{◌≡◌, ℕ, zero, suc, ◌+◌, ◌<◌, ◌≤◌, Bool, true, false, cond, List, [], ◌∷◌, ◌++◌, map, length, drop, get_or, refl, sym, ap, ◌∙◌, subst, arith, AllPairs}
 use Rattle.std.specs.Prelude.{Option, None, Some, ◌||◌, filter, nat_eq, slice_get, if◌then◌else◌}
 use Rattle.std.specs.List.{All, AllByRecursion, IsDistinct, list_any, filter_map}
 use Rattle.std.specs.List.Sorted.{IsPermutation, IsSortedBy}
 use Rattle.std.specs.Map.{keys_of}
 use Rattle.std.specs.Cmp.{IsStrictWeakOrder}
 use Rattle.std.proofs.lemmas.Cmp.{nat_list_cmp_total}
-use Rattle.std.proofs.lemmas.List.Elements.{All-from_recursion}
+use Rattle.std.proofs.lemmas.List.Elements.{All-from_recursion, All-nil, All-cons, All-head, All-tail}
 use Rattle.std.proofs.lemmas.List.Sorted.{length_permutation, ranks_by, sorted_far, All-permutation, list_any-IsPermutation}
 use Rattle.std.proofs.lemmas.List.{length-map}
 use Rattle.std.proofs.lemmas.Map.Keys.{apart_from_distinct, IsDistinct-IsPermutation}
@@ -15,7 +15,7 @@ use Rattle.md_value.proofs.Orders.{same_exact, same_sym_false, before_else_after
 use Rattle.md_world.specs.declared.Row.{Row}
 use Rattle.md_world.specs.Tables.{StandAfter, IsTable, at}
 use Rattle.md_world.specs.Differences.{paths_of, lists_path}
-use Rattle.md_world.proofs.Lookups.{by_test, same_tables, at_own}
+use Rattle.md_world.proofs.Lookups.{by_test, some_inj, same_tables, at_own}
 use Rattle.md_match.specs.Conditions.{Condition, passes}
 use Rattle.md_store.specs.Places.{Place, path_at}
 use Rattle.md_store.proofs.Placing.{same_sym, place_within}
@@ -152,3 +152,21 @@ rows_in_turn condition places old new kinds Removed ys not ho hn d h o = cc
 -- as many are named as are listed
 pub as_many : (places : List Place) (given : List ℕ) (ys : List Named) → AreInOrder places given ys → length ys ≡ length given
 as_many places given ys o = length_permutation o.found ys o.moved ∙ sym (length-map o.found (λ (one : Named). one.place)) ∙ ap length o.numbers
+
+-- the list of one more entry
+pub listed_next : (kind : Kind) (entries : List (ℕ × Kind)) (i : ℕ) (e : ℕ × Kind) → slice_get entries i ≡ Some e
+    → places_of kind (drop i entries) ≡ (if is_kind kind e.1 then e.0 ∷ places_of kind (drop (suc i) entries) else places_of kind (drop (suc i) entries))
+listed_next kind [] i e h = cc
+listed_next kind (x ∷ entries) zero e h = ap (λ (y : ℕ × Kind). if is_kind kind y.1 then y.0 ∷ places_of kind entries else places_of kind entries) (some_inj x e h)
+listed_next kind (x ∷ entries) (suc i) e h = listed_next kind entries i e h
+
+pub numbers_more : (xs : List Named) (x : Named) (rest : List ℕ) → numbers_of (xs ++ x ∷ []) ++ rest ≡ numbers_of xs ++ x.place ∷ rest
+numbers_more [] x rest = refl
+numbers_more (y ∷ xs) x rest = ap (λ more. y.place ∷ more) (numbers_more xs x rest)
+
+pub named_more : (places : List Place) (xs : List Named) (x : Named) → All (IsNamed places) xs → IsNamed places x → All (IsNamed places) (xs ++ x ∷ [])
+named_more places [] x h is = All-cons (IsNamed places) x [] is (All-nil (IsNamed places))
+named_more places (y ∷ xs) x h is = All-cons (IsNamed places) y (xs ++ x ∷ []) (All-head (IsNamed places) y xs h) (named_more places xs x (All-tail (IsNamed places) y xs h) is)
+
+pub all_named : (places : List Place) (given : List ℕ) (ys : List Named) → AreInOrder places given ys → All (IsNamed places) ys
+all_named places given ys o = All-permutation (IsNamed places) o.found ys o.moved o.own
