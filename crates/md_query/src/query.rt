@@ -307,9 +307,7 @@ impl Query {
         }
         match self.phase {
             Progressed::Gathering(_) => Ok((Reply::Resumed, Effect::Count(0))),
-            Progressed::Finished => {
-                self.deliver(now_ms, store, pending, steps)
-            }
+            Progressed::Finished => { self.deliver(now_ms, store, pending, steps) }
         }
     }
 

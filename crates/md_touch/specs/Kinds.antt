@@ -1,5 +1,5 @@
 -- In which list of a difference a place is.
-use Rattle.std.specs.Prelude.{ℕ, ◌==◌, Bool, true, false, List, [], ◌∷◌, Option, None, Some, nat_eq, if◌then◌else◌}
+use Rattle.std.specs.Prelude.{ℕ, Bool, true, false, List, Option, None, Some, nat_eq, if◌then◌else◌}
 use Rattle.std.specs.Map.{lookup}
 use Rattle.md_match.specs.Conditions.{Condition, passes}
 use Rattle.md_world.specs.declared.Row.{Row}

@@ -1,5 +1,5 @@
 -- Pending differences, by the places of a store.
-use Rattle.std.specs.Prelude.{◌≡◌, ◌==◌, ℕ, ◌<◌, Bool, List, [], Option, None, Some, is_some, true, false, filter, length, if◌then◌else◌}
+use Rattle.std.specs.Prelude.{◌≡◌, ◌==◌, ℕ, ◌<◌, Bool, List, Option, None, Some, is_some, true, false, filter, if◌then◌else◌}
 use Rattle.std.specs.List.{All}
 use Rattle.md_match.specs.Conditions.{Condition, passes}
 use Rattle.md_value.specs.Values.{PathBytes}

@@ -1,9 +1,8 @@
-use Rattle.std.proofs.Common.{◌≡◌, ◌+◌, ◌≤◌, ℕ, List, [], length, map, sym, ap, subst, ◌∙◌}
+use Rattle.std.proofs.Common.{◌≡◌, ◌+◌, ◌≤◌, [], length, map, sym, ap, subst, ◌∙◌}
 use Rattle.std.proofs.lemmas.Result.{IfOk-weaker}
 use Rattle.md_world.specs.Tables.{shown}
 use Rattle.md_world.proofs.Tables.{table_with_rows}
 use Rattle.md_store.specs.Places.{rows_seen, table_at}
-use Rattle.md_touch.specs.declared.listed.Named.{Named}
 use Rattle.std.specs.List.{All}
 use Rattle.md_touch.specs.Listed.{places_of, AreInOrder, IsNamed}
 use Rattle.md_touch.proofs.Listing.{rows_in_turn, as_many, all_named}

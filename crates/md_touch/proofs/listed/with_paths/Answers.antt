@@ -4,7 +4,7 @@ use Rattle.std.proofs.lemmas.Option.{slice_get_within, get_or_from_slice_get}
 use Rattle.md_touch.specs.declared.kind.Kind.{Kind}
 use Rattle.md_touch.specs.declared.listed.Named.{Named}
 use Rattle.md_touch.specs.Kinds.{is_kind}
-use Rattle.md_touch.specs.Listed.{numbers_of, places_of, IsNamed}
+use Rattle.md_touch.specs.Listed.{numbers_of, places_of}
 use Rattle.md_touch.proofs.Listing.{listed_next, numbers_more, named_more}
 use Rattle.md_touch.proofs.listed.with_paths.Goals.{then-is+in_ok-push, else-is}
 use Rattle.md_touch.proofs.listed.with_paths.Goals as goal

@@ -1,7 +1,6 @@
-use Rattle.std.proofs.Common.{◌≡◌, [], sym, ap, subst}
+use Rattle.std.proofs.Common.{[]}
 use Rattle.md_world.proofs.Tables.{table_with_rows}
 use Rattle.md_store.specs.Places.{rows_seen, table_at}
-use Rattle.md_touch.specs.Pendings.{Pended, IsPending}
 use Rattle.md_touch.proofs.Counting.{reads_counted}
 use Rattle.md_touch.proofs.pending.Pending.notice.Goals as goal
 
