@@ -29,7 +29,7 @@ use Rattle.md_query.specs.declared.asking.Effect.TheVariants as effect
 use Rattle.md_query.specs.Differing.{touch_by}
 use Rattle.md_query.specs.Standings.{standing_of}
 use Rattle.md_hub.specs.Asked.{settled_in}
-use Rattle.md_hub.specs.Pendings.{IsPendingAt, ArePending, AreAlike, AreReady, AreMoved}
+use Rattle.md_hub.specs.Pendings.{IsPendingAt, ArePending, AreAlike, AreReady, AreMovedTo, AreMoved}
 use Rattle.md_hub.specs.Pinned.{AreMade}
 
 -- a list of the same length has an element there as well
@@ -99,7 +99,7 @@ module _ (s : Stored) (r : Readied) (change : Change) (is : IsReady s r) (row : 
             let a = beside old ready i b.0 alike.same b.1 in
             let next : b.0.next ≡ Some (touch_by s (standing_of q) r) = are i q b.0 (slice_get_within qs i q there) there b.1 in
             one_committed q a.0.kinds p.kinds (made_at s.version qs i q made there) (h.each i q a.0 there a.1)
-            (λ place. moves.each i b.0 p b.1 at place ∙ ap (λ (o : Option Touch). kind_next o b.0.kinds place) next
+            (λ place. moves.each i b.0 p (slice_get_within ready i b.0 b.1) b.1 at place ∙ ap (λ (o : Option Touch). kind_next o b.0.kinds place) next
             ∙ ap (λ (kinds : List (ℕ × Kind)). kind_after (touch_by s (standing_of q) r) kinds place) (alike.each i a.0 b.0 a.1 b.1));
       }
 
@@ -289,6 +289,12 @@ module _ (s : Stored) (qs : List Query) (ps : List Pended) (h : ArePending s qs 
       (λ e. subst (ArePending s (slice_set qs i new)) (sym (is ∙ ap (λ b. if b then slice_set ps i (record { kinds = []; next = None }) else ps) e)) (pending_kept (stays e)))
 
 -- loops over pending differences
+below : (i j : ℕ) → j < i + 1 → (j ≡ i → ⊥) → j < i
+below zero zero lt other = absurd (other refl)
+below zero (suc j) lt other = omega arith
+below (suc i) zero lt other = omega arith
+below (suc i) (suc j) lt other = let rest = below i j (omega arith) (λ e. other (ap suc e)) in omega arith
+
 pub alike_itself : (ps : List Pended) → AreAlike ps ps
 alike_itself ps = record { same = refl; each = λ i p q there at. ap (λ (x : Pended). x.kinds) (some_inj q p (sym at ∙ there)) }
 
@@ -311,12 +317,31 @@ ready_set s r qs ps i q new h there next j x p lt at mine = elim (set_get ps i j
       ap (λ (y : Pended). y.next) (sym own.1) ∙ next ∙ ap (λ (y : Query). Some (touch_by s (standing_of y) r)) (some_inj q x (sym there ∙ at'))
   | inr other ↦ h j x p (below i j lt other.0) at other.1
 ]
-  where
-    below : (i j : ℕ) → j < i + 1 → (j ≡ i → ⊥) → j < i
-    below i j lt other = by_cases_lt i j lt other
-      where
-        by_cases_lt : (i j : ℕ) → j < i + 1 → (j ≡ i → ⊥) → j < i
-        by_cases_lt zero zero lt other = absurd (other refl)
-        by_cases_lt zero (suc j) lt other = omega arith
-        by_cases_lt (suc i) zero lt other = omega arith
-        by_cases_lt (suc i) (suc j) lt other = let rest = by_cases_lt i j (omega arith) (λ e. other (ap suc e)) in omega arith
+
+pub moved_itself : (ps : List Pended) → AreMovedTo ps ps 0
+moved_itself ps = record { same = refl; each = λ i p q lt was at place. absurd (omega arith); rest = λ i p q le was at. some_inj q p (sym at ∙ was) }
+
+pub moved_set : (old ps : List Pended) (i : ℕ) (p new : Pended) → AreMovedTo old ps i → slice_get ps i ≡ Some p → ((place : ℕ) → kind_at new.kinds place ≡ kind_next p.next p.kinds place) → AreMovedTo old (slice_set ps i new) (i + 1)
+moved_set old ps i p new h there moves =
+    record {
+      same = length-set ps i new ∙ h.same;
+      each = λ j a b lt was at place. elim (set_get ps i j new b at) [
+        | inl own ↦
+            let was' : slice_get old i ≡ Some a = ap (slice_get old) (sym own.0) ∙ was in
+            let same : p ≡ a = h.rest i a p (omega arith) was' there in
+            ap (λ (x : Pended). kind_at x.kinds place) (sym own.1) ∙ moves place ∙ ap (λ (x : Pended). kind_next x.next x.kinds place) same
+        | inr other ↦ h.each j a b (below i j lt other.0) was other.1 place
+      ];
+      rest = λ j a b le was at. elim (set_get ps i j new b at) [
+        | inl own ↦ let here = own.0 in absurd (omega arith)
+        | inr other ↦ h.rest j a b (omega arith) was other.1
+      ];
+    }
+
+pub moved_all : (old new : List Pended) (count : ℕ) → length old ≤ count → AreMovedTo old new count → AreMoved old new
+moved_all old new count le h =
+    record {
+      same = h.same;
+      each = λ i p q lt was at. h.each i p q (omega arith) was at;
+      rest = λ i p q past was at. let within = slice_get_within old i p was in absurd (omega arith);
+    }

@@ -1,5 +1,5 @@
 -- The pending differences of the live queries.
-use Rattle.std.specs.Prelude.{◌≡◌, ℕ, ◌<◌, List, Some, length, slice_get}
+use Rattle.std.specs.Prelude.{◌≡◌, ℕ, ◌<◌, ◌≤◌, List, Some, length, slice_get}
 use Rattle.md_machine.specs.Answers.{condition_of}
 use Rattle.md_machine.specs.States.{Query}
 use Rattle.md_store.specs.Readied.{Readied}
@@ -30,10 +30,15 @@ abbrev pub AreReady : Stored → Readied → List Query → List Pended → ℕ 
 AreReady s ready queries pendings count =
     (i : ℕ) (q : Query) (p : Pended) → i < count → slice_get queries i ≡ Some q → slice_get pendings i ≡ Some p → p.next ≡ Some (touch_by s (standing_of q) ready)
 
--- the changes that were ready are made
-pub record AreMoved (old new : List Pended) : Type 0 where
+-- the changes that were ready in the first so many are made, and the others are as they were
+pub record AreMovedTo (old new : List Pended) (count : ℕ) : Type 0 where
   pub same : length new ≡ length old
-  pub each : (i : ℕ) (p q : Pended) → slice_get old i ≡ Some p → slice_get new i ≡ Some q → (place : ℕ) → kind_at q.kinds place ≡ kind_next p.next p.kinds place
+  pub each : (i : ℕ) (p q : Pended) → i < count → slice_get old i ≡ Some p → slice_get new i ≡ Some q → (place : ℕ) → kind_at q.kinds place ≡ kind_next p.next p.kinds place
+  pub rest : (i : ℕ) (p q : Pended) → count ≤ i → slice_get old i ≡ Some p → slice_get new i ≡ Some q → q ≡ p
+
+-- the changes that were ready are made
+abbrev pub AreMoved : List Pended → List Pended → Type 0
+AreMoved old new = AreMovedTo old new (length old)
 
 -- what the server keeps true of its store, its queries and their pending differences
 pub record IsServing (s : Stored) (queries : List Query) (pendings : List Pended) : Type 0 where

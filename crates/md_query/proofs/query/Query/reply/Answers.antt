@@ -19,4 +19,4 @@ returns-clause-query g c =
 pub returns-clause-reads : goal.returns-clause-reads
 returns-clause-reads g c client number =
     let s = newest_of c.args.limits.now c.args.store.now in
-    rw (c.requires.newest, ← reply_of_any c.args.store.now.places client number c.args.self.now s c.args.ask c.args.now_ms) c.answer.ensures.reads
+    rw (← reply_of_any c.args.store.now.places client number c.args.self.now s c.args.ask c.args.now_ms) c.answer.ensures.reads
