@@ -1,4 +1,4 @@
-use Rattle.std.proofs.Common.{rules, ◌≡◌, ap, ◌∙◌}
+use Rattle.std.proofs.Common.{◌≡◌, arith, ap, ◌∙◌}
 use Rattle.md_world.specs.Differences.{Difference, items_of}
 use Rattle.md_machine.specs.Answers.{condition_of, diff}
 use Rattle.md_store.specs.Places.{table_at}
@@ -13,7 +13,7 @@ overflow_cast-result c =
     let new = table_at s.places s.version in
     let items : c.len.result ≡ items_of (diff q.spec old new) = c.len.ensures.items (condition_of q.spec) s.places old new (base_table s.places q.base) (base_table s.places s.version) c.requires.pending ∙ ap items_of (differ_is q.spec old new) in
     let few = c.requires.few in
-    let most = c.version-_most.ensures in
+    let most = c.version-most.ensures in
     omega arith
 
 pub returns : goal.returns
