@@ -139,15 +139,7 @@ fn answer<L: Ledger>(
 {
     let limits = store.limits();
     let pending = &pendings[place];
-    queries[place].reply(
-        alloc,
-        call.ask,
-        call.now_ms,
-        &limits,
-        store,
-        pending,
-        steps,
-    )
+    queries[place].reply(alloc, call.ask, call.now_ms, &limits, store, pending, steps)
 }
 
 /// What the query that is asked answers; the query is as its answer leaves it, and its base is pinned.

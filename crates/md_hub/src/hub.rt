@@ -185,7 +185,14 @@ impl Hub {
         ensures kept { IfOk result (λ r. self.new.places ≡ self.old.places) }
         ensures reads { steps.new ≤ steps.old + reads_asked (answered self.old.state call.ask call.now_ms) (query_at self.old.state.queries call.client call.number) }
     {
-        asks::ask(alloc, &mut self.queries, &mut self.pendings, &mut self.store, call, steps)
+        asks::ask(
+            alloc,
+            &mut self.queries,
+            &mut self.pendings,
+            &mut self.store,
+            call,
+            steps,
+        )
     }
 
     fn ask_counted<L: Ledger>(
@@ -204,7 +211,14 @@ impl Hub {
         ensures kept { IfOk result (λ r. self.new.places ≡ self.old.places) }
     {
         let mut steps = Steps::<L>::open(blank);
-        asks::ask_twice(alloc, &mut self.queries, &mut self.pendings, &mut self.store, call, &mut steps)
+        asks::ask_twice(
+            alloc,
+            &mut self.queries,
+            &mut self.pendings,
+            &mut self.store,
+            call,
+            &mut steps,
+        )
     }
 
     // What the query that is asked answers, twice, over a counter of its own.
@@ -225,7 +239,13 @@ impl Hub {
         ensures kept { self.new.places ≡ self.old.places }
         ensures plain { delivers result ≡ false }
     {
-        if asks::stop(&mut self.queries, &mut self.pendings, &mut self.store, client, number) {
+        if asks::stop(
+            &mut self.queries,
+            &mut self.pendings,
+            &mut self.store,
+            client,
+            number,
+        ) {
             Reply::Stopped
         } else {
             Reply::NoQuery
