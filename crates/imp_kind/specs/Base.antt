@@ -1,5 +1,5 @@
 -- The attributes that every file has.
-use Rattle.std.specs.Prelude.{ℕ, ◌-◌, ◌^◌, min, List, [], ◌∷◌, map, fold, chars, codes, pos}
+use Rattle.std.specs.Prelude.{ℕ, Bool, if◌then◌else◌, ◌-◌, ◌^◌, min, List, [], ◌∷◌, map, fold, chars, codes, pos}
 use Rattle.md_source.specs.declared.tree.Entry.{Entry}
 use Rattle.md_value.specs.Attrs.{Attr}
 use Rattle.md_value.specs.declared.value.Value.{Value}
@@ -33,3 +33,11 @@ base_attributes entry kind =
 -- the attributes with those of any file
 abbrev pub with_base : Entry → FileKind → List Attr → List Attr
 with_base entry kind attrs = fold (λ made attr. with_values made attr.0 attr.1) attrs (base_attributes entry kind)
+
+-- the attributes with one more, where it is asked for
+abbrev pub with_asked : (List ℕ → Bool) → List Attr → Attr → List Attr
+with_asked asked attrs attr = if asked attr.0 then with_values attrs attr.0 attr.1 else attrs
+
+-- the attributes with those of any file that are asked for
+abbrev pub with_asked_base : (List ℕ → Bool) → Entry → FileKind → List Attr → List Attr
+with_asked_base asked entry kind attrs = fold (with_asked asked) attrs (base_attributes entry kind)

@@ -1,5 +1,5 @@
 -- The attributes that a file has by its entry and its bytes, or its first fault.
-use Rattle.std.specs.Prelude.{◌≡◌, ℕ, max, nat_lt, List, [], length, if◌then◌else◌, Result, Ok, Err, ℤ}
+use Rattle.std.specs.Prelude.{◌≡◌, ℕ, Bool, codes, max, nat_lt, List, [], length, if◌then◌else◌, Result, Ok, Err, ℤ}
 use Rattle.std.specs.Str.{is_utf8}
 use Rattle.std.specs.Str.Lossy.{utf8_valid_len}
 use Rattle.csv.specs.Reading.{strip_bom}
@@ -11,7 +11,7 @@ use Rattle.imp_rules.specs.Faults.{made_of}
 use Rattle.imp_text.specs.Texts.{text_attributes}
 use Rattle.imp_json.specs.Objects.{json_attributes}
 use Rattle.imp_csv.specs.Tables.{csv_attributes}
-use Rattle.imp_kind.specs.Base.{with_base}
+use Rattle.imp_kind.specs.Base.{with_base, with_asked_base}
 use Rattle.imp_kind.specs.Kinds.{kind_of}
 use Rattle.imp_kind.specs.declared.imports.Imported.{Imported}
 use Rattle.imp_kind.specs.declared.imports.Imported.TheVariants as imported
@@ -46,6 +46,18 @@ content_attributes k size bytes offset = sized_bytes k (max size (length bytes))
 -- the attributes of a file, or its first fault
 abbrev pub import : Entry → List ℕ → ℤ → Result (List Attr) Fault
 import entry bytes offset = made_of (with_base entry (kind_of entry.path)) (content_attributes (kind_of entry.path) entry.size bytes offset)
+
+-- the attributes that the content of a file gives, less the text content of a plain text that is not asked for
+abbrev pub asked_content : (List ℕ → Bool) → FileKind → List Attr → List Attr
+asked_content asked kind.Plain attrs = if asked (codes "kMDItemTextContent") then attrs else []
+asked_content asked k attrs = attrs
+
+-- The attributes of a file, or its first fault, less attributes that are not asked for: those that every file has, and the text
+-- content of a plain text.
+abbrev pub import_asked : (List ℕ → Bool) → Entry → List ℕ → ℤ → Result (List Attr) Fault
+import_asked asked entry bytes offset =
+    made_of (with_asked_base asked entry (kind_of entry.path))
+    (made_of (asked_content asked (kind_of entry.path)) (content_attributes (kind_of entry.path) entry.size bytes offset))
 
 -- the answer is what is given, or want of memory
 abbrev pub IsImported : Imported → Result (List Attr) Fault → Type 0

@@ -9,3 +9,6 @@ pub mod Among
 pub mod Below
 pub mod Causes
 pub mod Counting
+mod Trees
+mod Alike
+mod Decided

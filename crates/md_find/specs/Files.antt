@@ -4,7 +4,8 @@ use Rattle.std.specs.List.{zip, filter_map}
 use Rattle.md_value.specs.Values.{PathBytes}
 use Rattle.md_source.specs.declared.tree.Entry.{Entry}
 use Rattle.md_world.specs.declared.Row.{Row}
-use Rattle.md_files.specs.Answers.{FileAnswer, outcome}
+use Rattle.imp_kind.specs.Imports.{import_asked}
+use Rattle.md_files.specs.Answers.{FileAnswer, of_import, outcome}
 use Rattle.md_files.specs.Answers.FileAnswer.{given, absent, failed}
 use Rattle.md_files.specs.Findings.{Finding}
 use Rattle.md_files.specs.Findings.Finding.{listed}
@@ -16,6 +17,7 @@ use Rattle.md_find.specs.declared.reading.ReadFile.{ReadFile}
 use Rattle.md_find.specs.declared.testing.Seen.{Seen}
 use Rattle.md_find.specs.declared.testing.Seen.TheVariants as seen
 use Rattle.md_find.specs.declared.testing.SeenFile.{SeenFile}
+use Rattle.md_find.specs.Asks.{asks}
 use Rattle.md_match.specs.Conditions.{Condition, passes}
 
 -- the row of a file that gives attributes
@@ -46,6 +48,12 @@ entries_of files = map (λ file. file.entry) files
 abbrev pub seen_as : Condition → PathBytes → ImportResult → Seen
 seen_as condition path (asked.Attrs attrs) = seen.Tested (passes condition (record { path = path; attrs = attrs }))
 seen_as condition path bare = seen.Bare bare
+
+-- what an answer gives, less attributes that the condition's expression does not ask for
+abbrev pub asked_outcome : Condition → FileAnswer → ImportResult
+asked_outcome condition (given entry bytes) = of_import (import_asked (asks condition.expr) entry bytes condition.offset)
+asked_outcome condition absent = asked.Absent
+asked_outcome condition failed = asked.Failed
 
 -- what it makes of a file that was read
 abbrev pub seen_file : Condition → ReadFile → SeenFile

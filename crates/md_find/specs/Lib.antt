@@ -4,3 +4,4 @@ pub mod Folders
 pub mod Files
 pub mod Notes
 pub mod Finds
+pub mod Asks

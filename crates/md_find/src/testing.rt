@@ -1,12 +1,17 @@
 // The files that were read, imported and tested in several threads.
 ghost use Rattle.std.specs.Prelude.{◌≡◌, All, IfOk, map};
 ghost use Rattle.md_value.specs.Values.{IsMoment};
-ghost use Rattle.md_files.specs.Answers.{outcome};
-ghost use Rattle.md_find.specs.Files.{answer_of, seen_as, seen_file};
+ghost use Rattle.imp_kind.specs.Imports as imports;
+ghost use Rattle.md_files.specs.Answers.{of_import};
+ghost use Rattle.md_find.specs.Asks.{asks};
+ghost use Rattle.md_find.specs.Files.{answer_of, asked_outcome, seen_as, seen_file};
 
+use crate::asking::ExprNames;
 use crate::reading::{Prefix, ReadFile};
-use md_files::{ImportResult, imported};
+use imp_kind::{Imported, import_asked};
+use md_files::ImportResult;
 use md_match::Filter;
+use md_source::Entry;
 use md_value::{Copied, Path};
 use md_world::Row;
 use rayon::prelude::*;
@@ -29,13 +34,33 @@ pub struct SeenFile {
     pub seen: Seen,
 }
 
-// What a file that was read gives.
-fn asked(alloc: Global, file: &ReadFile, offset: i32) -> Result<ImportResult, AllocError>
+// What a file with these first bytes gives, less attributes that the filter's expression does not ask for.
+fn imported(
+    alloc: Global,
+    filter: &Filter,
+    entry: &Entry,
+    bytes: &[u8],
+) -> Result<ImportResult, AllocError>
+    requires { IsMoment entry.now.changed }
+    ensures { IfOk result (λ made. made ≡ of_import (imports.import_asked (asks filter.now.expr) entry.now bytes.now filter.now.offset)) }
+{
+    let names = ExprNames {
+        expr: filter.expr(),
+    };
+    match import_asked(alloc, &names, entry, bytes, filter.offset()) {
+        Imported::Attrs(attrs) => Ok(ImportResult::Attrs(attrs)),
+        Imported::Fault(fault) => Ok(ImportResult::Fault(fault)),
+        Imported::Memory => Err(AllocError),
+    }
+}
+
+// What a file that was read gives, less attributes that the filter's expression does not ask for.
+fn asked(alloc: Global, filter: &Filter, file: &ReadFile) -> Result<ImportResult, AllocError>
     requires { IsMoment file.now.entry.changed }
-    ensures { IfOk result (λ asked. asked ≡ outcome offset (answer_of file.now)) }
+    ensures { IfOk result (λ asked. asked ≡ asked_outcome filter.now (answer_of file.now)) }
 {
     match &file.prefix {
-        Prefix::Bytes(bytes) => imported(alloc, &file.entry, bytes, offset),
+        Prefix::Bytes(bytes) => imported(alloc, filter, &file.entry, bytes),
         Prefix::Absent => Ok(ImportResult::Absent),
         Prefix::Failed => Ok(ImportResult::Failed),
     }
@@ -71,7 +96,7 @@ fn seen_file(alloc: Global, filter: &Filter, file: &ReadFile) -> Result<SeenFile
     requires { IsMoment file.now.entry.changed }
     ensures { IfOk result (λ made. made ≡ seen_file filter.now file.now) }
 {
-    let asked = asked(alloc, file, filter.offset())?;
+    let asked = asked(alloc, filter, file)?;
     let path = file.entry.path.copy(alloc)?;
     seen_as(alloc, filter, path, asked)
 }
