@@ -5,7 +5,8 @@
                         beside `cat` of all files, `grep`, and ripgrep and Recoll where they are installed, with the
                         greatest memory beside the bytes of the files, and on one processor beside all
     find.py names       100,000 empty texts, and 100,000 empty files of no known kind; `mdfind -name plan` beside
-                        `find -iname '*plan*'` and a reading of all in the order of their paths
+                        `find -iname '*plan*'` and a plain Rust program that lists all with their sizes, sorts the paths,
+                        and opens and reads each
     find.py memory      100 texts of 16 MiB, and 100,000 texts of 1 KiB; the greatest memory of `mdfind budget`
 
 Each figure is the least of three runs of a whole process; the program is built before.
@@ -107,12 +108,49 @@ def search(program, folder):
         print(f"recollindex {index:.2f} s, recollq {query:.2f} s: mdfind takes 1/{(index + query) / ours:.0f} of both")
 
 
+READER = """
+use std::{fs, io::Read, path::PathBuf};
+
+fn list(folder: PathBuf, files: &mut Vec<(PathBuf, u64)>) {
+    for entry in fs::read_dir(folder).unwrap() {
+        let path = entry.unwrap().path();
+        let metadata = fs::symlink_metadata(&path).unwrap();
+        if metadata.is_dir() {
+            list(path, files);
+        } else {
+            files.push((path, metadata.len()));
+        }
+    }
+}
+
+fn main() {
+    let mut files = Vec::new();
+    list(PathBuf::from("."), &mut files);
+    files.sort();
+    let mut bytes = Vec::new();
+    let mut size = 0;
+    for (path, _) in &files {
+        bytes.clear();
+        size += fs::File::open(path).unwrap().read_to_end(&mut bytes).unwrap();
+    }
+    println!("{} {size}", files.len());
+}
+"""
+
+
+def build_reader(folder):
+    (folder / "reader.rs").write_text(READER)
+    subprocess.run(["rustc", "-O", "-o", folder / "reader", folder / "reader.rs"], check=True)
+    return folder / "reader"
+
+
 def search_names(program, folder):
+    reader = build_reader(folder)
     for ending in [".txt", ".bin"]:
         files = folder / ending
         fill_empty(files, 100_000, ending)
         find = least(["find", ".", "-type", "f", "-iname", "*plan*"], files)
-        read = least(["sh", "-c", "find . -type f | LC_ALL=C sort | xargs cat"], files)
+        read = least([reader], files)
         ours = least([program, "mdfind", "-name", "plan"], files)
         print(f"{ending}: mdfind -name {ours[0]:.2f} s, {ours[1] / 1000:.0f} MB; find {find[0]:.2f} s; all are read in {read[0]:.2f} s")
         print(f"hits {ours[2].count(10)} and {find[2].count(10)}")
