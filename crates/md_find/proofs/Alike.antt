@@ -48,6 +48,10 @@ module _ (name : List ℕ) (values : List Value) where
         ]
       ] refl
 
+abbrev given_or : Result (List Attr) Fault → List Attr
+given_or (Ok attrs) = attrs
+given_or (Err fault) = []
+
 -- the attributes that are asked for are the same; where all are, the lists are
 pub record AreAlike (asked : List ℕ → Bool) (made whole : List Attr) : Type 0 where
   pub named : (name : List ℕ) → asked name ≡ true → get made name ≡ get whole name
@@ -67,22 +71,22 @@ module _ (asked : List ℕ → Bool) where
   }
 
   differs_from : (name other : List ℕ) → asked name ≡ false → asked other ≡ true → is_same name other ≡ false
-  differs_from name other no is = elim (is_same name other) as (λ b. is_same name other ≡ b → b ≡ false) [
-    | true ↦ λ same. false-true (sym no ∙ ap asked (same_exact name other same) ∙ is)
+  differs_from name other unasked is = elim (is_same name other) as (λ b. is_same name other ≡ b → b ≡ false) [
+    | true ↦ λ same. false-true (sym unasked ∙ ap asked (same_exact name other same) ∙ is)
     | false ↦ λ _. refl
   ] refl
 
   left_alike : (attr : Attr) (made whole : List Attr) → asked attr.0 ≡ false → AreAlike asked made whole → AreAlike asked made (put whole attr.0 attr.1)
-  left_alike attr made whole no alike = record {
-    named = λ name is. alike.named name is ∙ sym (get-put_other attr.0 attr.1 whole name (differs_from attr.0 name no is));
-    all = λ every. false-true (sym no ∙ every attr.0);
+  left_alike attr made whole unasked alike = record {
+    named = λ name is. alike.named name is ∙ sym (get-put_other attr.0 attr.1 whole name (differs_from attr.0 name unasked is));
+    all = λ every. false-true (sym unasked ∙ every attr.0);
   }
 
   asked_alike : (attr : Attr) (made whole : List Attr) → AreAlike asked made whole → AreAlike asked (with_asked asked made attr) (with_values whole attr.0 attr.1)
   unfolding with_values
   asked_alike attr made whole alike = elim (asked attr.0) as (λ b. asked attr.0 ≡ b → AreAlike asked (cond b (put made attr.0 attr.1) made) (put whole attr.0 attr.1)) [
     | true ↦ λ is. put_alike attr made whole alike
-    | false ↦ λ no. left_alike attr made whole no alike
+    | false ↦ λ unasked. left_alike attr made whole unasked alike
   ] refl
 
   fold_alike : (attrs made whole : List Attr) → AreAlike asked made whole → AreAlike asked (fold (with_asked asked) made attrs) (fold (λ all attr. with_values all attr.0 attr.1) whole attrs)
@@ -97,9 +101,7 @@ module _ (asked : List ℕ → Bool) where
 
   plain_alike : (b c : Bool) (fault other : Fault) (bytes : List ℕ) (whole : List Attr) → cond b (Err fault) (cond c (Ok (with_content bytes [])) (Err other)) ≡ Ok whole
       → AreAlike asked (cond (asked (codes "kMDItemTextContent")) whole []) whole
-  plain_alike false true fault other bytes whole is = subst (λ attrs. AreAlike asked (cond (asked (codes "kMDItemTextContent")) attrs []) attrs) (ok_same is) (content_alike bytes) where
-    ok_same : {A B : Type 0} {a b : A} → Ok {E = B} a ≡ Ok b → a ≡ b
-    ok_same e = cc
+  plain_alike false true fault other bytes whole is = subst (λ attrs. AreAlike asked (cond (asked (codes "kMDItemTextContent")) attrs []) attrs) (ap given_or is) (content_alike bytes)
   plain_alike true c fault other bytes whole is = absurd (cc)
   plain_alike false false fault other bytes whole is = absurd (cc)
 

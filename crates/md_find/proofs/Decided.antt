@@ -11,8 +11,8 @@ use Rattle.md_expr_tree.specs.declared.tree.Subject.{Subject}
 use Rattle.md_expr_tree.specs.declared.tree.Subject.TheVariants as subject
 use Rattle.md_expr_tree.specs.declared.tree.Test.{Test}
 use Rattle.md_expr_tree.specs.declared.tree.Test.TheVariants as test
-use Rattle.md_expr_tree.specs.declared.tree.Expr.{Expr}
-use Rattle.md_expr_tree.specs.declared.tree.Expr.TheOpen.{Expr-F, roll-Expr}
+use Rattle.md_expr_tree.specs.declared.tree.Expr.{Expr, roll-Expr, map-Expr}
+use Rattle.md_expr_tree.specs.declared.tree.Expr.TheOpen.{Expr-F}
 use Rattle.md_expr_tree.specs.declared.tree.Expr.TheFolds.{fold-Expr, fold-roll-Expr, ind-Expr}
 use Rattle.md_match.specs.Satisfies.{compares, has_between, values_of, holds, satisfies_step, satisfies}
 use Rattle.md_match.specs.Meets.{resolved}
@@ -32,9 +32,6 @@ use Rattle.md_find.specs.declared.testing.SeenFile.{SeenFile}
 use Rattle.md_find.specs.declared.testing.Seen.TheVariants as seen
 use Rattle.md_find.specs.Files.{answer_of, asked_outcome, seen_as, seen_file}
 use Rattle.md_find.proofs.Alike.{AreAlike, base_alike, given_alike}
-
-probe : Unit {0}
-probe = ind-Expr
 
 right : (a b : Bool) → b ≡ true → (a || b) ≡ true
 right true b is = refl
@@ -98,8 +95,14 @@ module _ (now offset : ℤ) where
       ∙ ap (list_any (λ is. is)) (all_alike asked made whole alike es (λ name is. each name (fold-roll-Expr Bool (asks_step name) (Expr-F.Any (exprs es)) ∙ is)))
       ∙ sym (fold-roll-Expr Bool (satisfies_step now offset whole) (Expr-F.Any (exprs es)))
 
+  layer_decided : (layer : Expr-F Decided) → IsDecided (roll-Expr (map-Expr Decided Expr (λ e. e.0) layer))
+  layer_decided (Expr-F.Test t) = test_decided t
+  layer_decided (Expr-F.Not e) = not_decided e.0 e.1
+  layer_decided (Expr-F.All es) = all_decided es
+  layer_decided (Expr-F.Any es) = any_decided es
+
   decided : (e : Expr) → IsDecided e
-  decided = ind-Expr IsDecided (λ x y is. ?)
+  decided = ind-Expr IsDecided (λ x y is. subst (λ (layer : Expr-F Expr). IsDecided (roll-Expr layer)) is (layer_decided y))
 
 -- a file is seen as by its whole import
 

@@ -92,6 +92,7 @@ fn seen_as(
     }
 }
 
+#[tactic(auto, using(crate::proofs::Decided::seen_whole))]
 fn seen_file(alloc: Global, filter: &Filter, file: &ReadFile) -> Result<SeenFile, AllocError>
     requires { IsMoment file.now.entry.changed }
     ensures { IfOk result (λ made. made ≡ seen_file filter.now file.now) }
